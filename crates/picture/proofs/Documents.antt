@@ -17,7 +17,7 @@ use Rattle.picture.specs.Waits.{Scene}
 pub document_of : (rows : List TaskRow) (v : View) (until : ℕ) (rs : List Release) (trace : Trace)
     (f : Frame) (title : List ℕ) (locks : List Toned) (shown : List ℕ) (jobs : List JobRecord)
     (slices : List Slice)
-    → f ≡ frame_of rows v until → title ≡ v.title.items → locks ≡ locks_of rows → shown
+    → f ≡ frame_of rows v until → title ≡ string_bytes v.title → locks ≡ locks_of rows → shown
     ≡ shown_of v.tasks.items rs rows → jobs ≡ trace.jobs.items → slices ≡ trace.slices.items
     → framed f title locks rows shown until rs jobs slices ≡ document rows v until rs trace
 document_of rows v until rs trace f title locks shown jobs slices frame titled locked chosen

@@ -1,6 +1,6 @@
 -- Two runs of one release list in one document, one before a change and one after it: the row of each task as it was, and
 -- right below it the row of the same task as it is, with what changed marked.
-use Rattle.std.specs.Prelude.{ℕ, ◌+◌, ◌-◌, ◌*◌, ◌/◌, min, max, Bool, false, ◌==◌, nat_lt, if◌then◌else◌, List, [], ◌∷◌, ◌++◌, length, codes}
+use Rattle.std.specs.Prelude.{ℕ, ◌+◌, ◌-◌, ◌*◌, ◌/◌, min, max, Bool, false, ◌==◌, nat_lt, if◌then◌else◌, List, [], ◌∷◌, ◌++◌, length, string_bytes, codes}
 use Rattle.std.specs.Fmt.{decimal}
 use Rattle.std.specs.List.{concat}
 use Rattle.ceiling_kernel.specs.declared.trace.Release.{Release}
@@ -252,4 +252,4 @@ new_scene old new v =
 -- THE DOCUMENT OF TWO RUNS, as a view has them
 abbrev pub document_beside : (old new : Run) → View → List ℕ
 document_beside old new v =
-    signed (body_beside (old_scene old new v) (new_scene old new v) v.title.items old.until new.until)
+    signed (body_beside (old_scene old new v) (new_scene old new v) (string_bytes v.title) old.until new.until)

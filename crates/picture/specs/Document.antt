@@ -1,5 +1,5 @@
 -- The document: what stands still, the jobs, the slices by time, and the marks of the releases.
-use Rattle.std.specs.Prelude.{ℕ, ◌+◌, ◌-◌, ◌*◌, ◌/◌, Bool, ◌&&◌, ◌==◌, if◌then◌else◌, Option, Some, None, List, [], ◌∷◌, ◌++◌, length, codes}
+use Rattle.std.specs.Prelude.{ℕ, ◌+◌, ◌-◌, ◌*◌, ◌/◌, Bool, ◌&&◌, ◌==◌, if◌then◌else◌, Option, Some, None, List, [], ◌∷◌, ◌++◌, length, string_bytes, codes}
 use Rattle.std.specs.Fmt.{decimal}
 use Rattle.std.specs.List.{concat, list_any}
 use Rattle.ceiling_kernel.specs.declared.trace.Release.{Release}
@@ -167,5 +167,5 @@ framed f title locks rows shown until rs jobs slices =
 -- THE DOCUMENT: the picture of a trace below a time, as a view has it
 abbrev pub document : List TaskRow → View → ℕ → List Release → Trace → List ℕ
 document rows v until rs trace =
-    framed (frame_of rows v until) v.title.items (locks_of rows) rows (shown_of v.tasks.items rs rows)
+    framed (frame_of rows v until) (string_bytes v.title) (locks_of rows) rows (shown_of v.tasks.items rs rows)
     until rs trace.jobs.items trace.slices.items

@@ -45,17 +45,18 @@ name_text missed jobs k level row =
     ++ concat (codes ", bound: " ∷ known_text row.bound ∷ codes " us</title>" ∷ row.sheet.name
     ∷ number_words level row.number ∷ codes "</text>\n" ∷ [])
 
+-- a bound, if there is one, up to the deadline behind it
+abbrev pub bound_words : (millis : Bool) → Option ℕ → List ℕ
+bound_words millis None = codes "deadline "
+bound_words millis (Some bound) =
+    concat (codes "bound " ∷ time_text millis bound ∷ codes " of " ∷ [])
+
 -- the bound and the deadline, in the picture's unit; without a bound the deadline
-abbrev pub limits_text : (millis : Bool) → ℕ → TaskRow → Option ℕ → List ℕ
-limits_text millis k row (Some bound) =
-    concat (codes "<text x=\"500\" y=\"" ∷ decimal (top_of k + 355) ∷ codes "\">bound "
-    ∷ time_text millis bound
-    ∷ codes " of " ∷ time_text millis row.sheet.deadline ∷ unit_text millis
+abbrev pub limits_text : (millis : Bool) → ℕ → TaskRow → List ℕ
+limits_text millis k row =
+    concat (codes "<text x=\"500\" y=\"" ∷ decimal (top_of k + 355) ∷ codes "\">"
+    ∷ bound_words millis row.bound ∷ time_text millis row.sheet.deadline ∷ unit_text millis
     ∷ codes "</text>\n" ∷ [])
-limits_text millis k row None =
-    concat (codes "<text x=\"500\" y=\"" ∷ decimal (top_of k + 355) ∷ codes "\">deadline "
-    ∷ time_text millis row.sheet.deadline
-    ∷ unit_text millis ∷ codes "</text>\n" ∷ [])
 
 -- by how much, where a job is done late
 abbrev pub late_words : (millis : Bool) → (late : ℕ) → List ℕ
@@ -75,5 +76,5 @@ missed_line millis missed late k =
 abbrev pub margin_text : Frame → List JobRecord → Spot → TaskRow → List ℕ
 margin_text f jobs spot row =
     level_text f spot row ++ name_text (missed_in f row jobs) jobs spot.k (level_of f spot.rank) row
-    ++ limits_text (in_millis f) spot.k row row.bound
+    ++ limits_text (in_millis f) spot.k row
     ++ missed_line (in_millis f) (missed_in f row jobs) (latest_in row jobs) spot.k

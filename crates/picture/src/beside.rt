@@ -1,7 +1,6 @@
 //! Two runs of one release list in one picture.
-ghost use Rattle.std.specs.Prelude.{◌≡◌, ◌≤◌, IfOk, OnOk, length};
+ghost use Rattle.std.specs.Prelude.{◌≡◌, ◌≤◌, ◌++◌, IfOk, OnOk, length, string_bytes};
 ghost use Rattle.task_sheet.specs.declared.set.TheConstants.{TASK_LIMIT};
-ghost use Rattle.frames.specs.Page.{Adds};
 ghost use Rattle.frames.specs.declared.locks.TheConstants.{LOCKS_LIMIT};
 ghost use Rattle.frames.specs.declared.places.TheConstants.{PLACES_LIMIT};
 ghost use Rattle.picture.specs.Beside.{body_beside, document_beside, new_places, old_places, run_of, scene_at, side_text};
@@ -13,7 +12,7 @@ use crate::sides::{known_to, put_ground_beside, put_lanes_beside};
 use ceiling_kernel::{Release, Slice, Trace};
 use drawn_jobs::{held_beside, put_changes};
 use frames::{
-    Chart, Frame, Page, TaskRow, Toned, View, below_of, frame_beside, locks_beside, lower_places,
+    Chart, Frame, TaskRow, Toned, View, below_of, frame_beside, locks_beside, lower_places,
     shown_of, starts_rise, upper_places,
 };
 use std::alloc::{AllocError, Global};
@@ -59,34 +58,33 @@ fn sides_of(
 }
 
 // What happens in the rows of a chart. Memory is taken for a count of each job.
-fn put_side(alloc: Global, chart: &Chart<'_>, page: &mut Page) -> Result<(), AllocError>
-    ensures { OnOk result (Adds page.old page.new (side_text (scene_of chart.now))) }
+fn put_side(alloc: Global, chart: &Chart<'_>, text: &mut String) -> Result<(), AllocError>
+    ensures { OnOk result (string_bytes text.new ≡ string_bytes text.old ++ side_text (scene_of chart.now)) }
 {
     let mut executed = vec![in alloc; 0; chart.jobs.len()]?;
-    put_run(chart, &mut executed, page);
-    Ok(())
+    put_run(chart, &mut executed, text)
 }
 
 // What is drawn of two charts. Memory is taken for it, for two counts of each job, and for two names of each lock.
-fn body_beside(alloc: Global, old: &Chart<'_>, new: &Chart<'_>) -> Result<Vec<u8>, AllocError>
-    ensures { IfOk result (λ text. text.items ≡ body_beside (scene_of old.now) (scene_of new.now)
+fn body_beside(alloc: Global, old: &Chart<'_>, new: &Chart<'_>) -> Result<String, AllocError>
+    ensures { IfOk result (λ text. string_bytes text ≡ body_beside (scene_of old.now) (scene_of new.now)
         new.now.title.now old.now.until new.now.until) }
 {
     let held = held_beside(alloc, old, new)?;
-    let mut page = Page::new(alloc);
-    put_ground_beside(old, new, &held, &mut page);
-    put_lanes_beside(old, new, &mut page);
-    put_side(alloc, old, &mut page)?;
-    put_side(alloc, new, &mut page)?;
-    put_changes(new, known_to(old, new), old.jobs, &mut page);
-    page.whole()
+    let mut text = String::new(alloc);
+    put_ground_beside(old, new, &held, &mut text)?;
+    put_lanes_beside(old, new, &mut text)?;
+    put_side(alloc, old, &mut text)?;
+    put_side(alloc, new, &mut text)?;
+    put_changes(new, known_to(old, new), old.jobs, &mut text)?;
+    Ok(text)
 }
 
 // A run in a frame, with locks, at places.
 fn chart_of<'a>(
     run: &'a DrawnRun<'a>,
     frame: Frame,
-    title: &'a [u8],
+    title: &'a str,
     shown: &'a [usize],
     locks: &'a [Toned],
 ) -> Chart<'a>
@@ -121,10 +119,10 @@ pub fn draw_beside(
     old: &DrawnRun<'_>,
     new: &DrawnRun<'_>,
     view: &View,
-) -> Result<Vec<u8>, AllocError>
+) -> Result<String, AllocError>
     requires old { length old.now.rows.now ≤ TASK_LIMIT }
     requires new { length new.now.rows.now ≤ TASK_LIMIT }
-    ensures { IfOk result (λ text. text.items ≡ document_beside (run_of old.now) (run_of new.now)
+    ensures { IfOk result (λ text. string_bytes text ≡ document_beside (run_of old.now) (run_of new.now)
         view.now) }
 {
     let until = old.until.max(new.until);
@@ -132,7 +130,7 @@ pub fn draw_beside(
     let locks = locks_beside(alloc, old.rows, new.rows)?;
     let before = frame_beside(old.rows.len(), old.rows, new.rows, view, old.until, until);
     let after = frame_beside(new.rows.len(), old.rows, new.rows, view, new.until, until);
-    let upper = chart_of(old, before, &view.title, &sides.upper, &locks);
-    let lower = chart_of(new, after, &view.title, &sides.lower, &locks);
+    let upper = chart_of(old, before, view.title.as_str(), &sides.upper, &locks);
+    let lower = chart_of(new, after, view.title.as_str(), &sides.lower, &locks);
     signed(alloc, body_beside(alloc, &upper, &lower)?)
 }

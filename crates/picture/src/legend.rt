@@ -1,9 +1,8 @@
 //! What the signs mean: each stands where the picture has it.
-ghost use Rattle.std.specs.Prelude.{◌≡◌, ◌++◌, IfOk, codes};
-ghost use Rattle.frames.specs.Page.{Adds};
+ghost use Rattle.std.specs.Prelude.{◌≡◌, ◌++◌, IfOk, OnOk, codes, string_bytes};
 ghost use Rattle.picture.specs.Legend.{first_line, legend_text, second_line};
 
-use frames::{Page, put_sign, put_sign_of};
+use frames::{put_sign, put_sign_of};
 use std::alloc::{AllocError, Global};
 
 // The signs of the first line.
@@ -72,48 +71,49 @@ const CHANGED: &str = concat!(
 );
 
 // The first line.
-fn put_first_line(text: &[u8], page: &mut Page)
-    ensures { Adds page.old page.new (first_line text.now) }
+fn put_first_line(drawn: &str, text: &mut String) -> Result<(), AllocError>
+    ensures { OnOk result (string_bytes text.new ≡ string_bytes text.old ++ first_line drawn.now) }
 {
-    put_sign(text, b"<path class=\"f", EXECUTES, page);
-    put_sign(text, b"<path class=\"wa i", WAITS, page);
-    put_sign(text, b"<path class=\"wb", BLOCKED, page);
-    put_sign(text, b"<path class=\"wa ns", SEVERAL, page);
-    put_sign(text, b"<path class=\"a\" d=\"M", GOES_ON, page)
+    put_sign(drawn, "<path class=\"f", EXECUTES, text)?;
+    put_sign(drawn, "<path class=\"wa i", WAITS, text)?;
+    put_sign(drawn, "<path class=\"wb", BLOCKED, text)?;
+    put_sign(drawn, "<path class=\"wa ns", SEVERAL, text)?;
+    put_sign(drawn, "<path class=\"a\" d=\"M", GOES_ON, text)
 }
 
 // The second.
-fn put_second_line(text: &[u8], page: &mut Page)
-    ensures { Adds page.old page.new (second_line text.now) }
+fn put_second_line(drawn: &str, text: &mut String) -> Result<(), AllocError>
+    ensures { OnOk result (string_bytes text.new ≡ string_bytes text.old ++ second_line drawn.now) }
 {
     put_sign_of(
-        text,
-        b"<path class=\"w\"",
-        b"<path class=\"l w\"",
+        drawn,
+        "<path class=\"w\"",
+        "<path class=\"l w\"",
         BOUND,
-        page,
-    );
-    put_sign(text, b"<path class=\"a\" d=\"\nM", ARRIVAL, page);
-    put_sign(text, b"<path class=\"r\" d=\"\nM", NOT_READY, page);
-    put_sign(text, b"<path class=\"d\" d=\"\nM", DEADLINE, page);
-    put_sign_of(
         text,
-        b"<path class=\"x\"",
-        b"<path class=\"z\"",
+    )?;
+    put_sign(drawn, "<path class=\"a\" d=\"\nM", ARRIVAL, text)?;
+    put_sign(drawn, "<path class=\"r\" d=\"\nM", NOT_READY, text)?;
+    put_sign(drawn, "<path class=\"d\" d=\"\nM", DEADLINE, text)?;
+    put_sign_of(
+        drawn,
+        "<path class=\"x\"",
+        "<path class=\"z\"",
         MISSED,
-        page,
-    );
-    put_sign(text, b"<path class=\"wt\"", UNRUN, page);
-    put_sign(text, b"<path class=\"ch\"", CHANGED, page)
+        text,
+    )?;
+    put_sign(drawn, "<path class=\"wt\"", UNRUN, text)?;
+    put_sign(drawn, "<path class=\"ch\"", CHANGED, text)
 }
 
 // What the signs mean that a picture has.
-pub(crate) fn legend_of(alloc: Global, text: &[u8]) -> Result<Vec<u8>, AllocError>
-    ensures { IfOk result (λ legend. legend.items ≡ legend_text text.now ++ codes "</svg>\n") }
+pub(crate) fn legend_of(alloc: Global, drawn: &str) -> Result<String, AllocError>
+    ensures { IfOk result (λ legend. string_bytes legend
+        ≡ legend_text drawn.now ++ codes "</svg>\n") }
 {
-    let mut page = Page::new(alloc);
-    put_first_line(text, &mut page);
-    put_second_line(text, &mut page);
-    page.put(b"</svg>\n");
-    page.whole()
+    let mut text = String::new(alloc);
+    put_first_line(drawn, &mut text)?;
+    put_second_line(drawn, &mut text)?;
+    text.push_str("</svg>\n")?;
+    Ok(text)
 }

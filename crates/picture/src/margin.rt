@@ -1,167 +1,188 @@
 //! The margin: each row's level, tone and name, and how long its jobs take at most.
-ghost use Rattle.std.specs.Prelude.{◌<◌, ◌≡◌, ◌++◌, codes, length};
+ghost use Rattle.std.specs.Prelude.{◌<◌, ◌≡◌, ◌++◌, OnOk, length, string_bytes};
 ghost use Rattle.frames.specs.Frame.{in_millis, level_of};
-ghost use Rattle.frames.specs.Page.{Adds};
 ghost use Rattle.frames.specs.PictureRows.{at_spot, spot_in};
 ghost use Rattle.picture.specs.Document.{margin_group, margins_text};
-ghost use Rattle.picture.specs.Margin.{late_words, level_text, limits_text, margin_text, missed_line, name_class, name_text, number_words};
+ghost use Rattle.picture.specs.Margin.{bound_words, late_words, level_text, limits_text, margin_text, missed_line, name_class, name_text, number_words};
 
 use ceiling_kernel::JobRecord;
 use drawn_jobs::{latest_in, missed_in, put_greatest, put_lane_head};
-use frames::{Chart, Lane, Page, in_millis, level_of, put_known, put_time, put_unit, top_of};
+use frames::{Chart, Known, Lane, ShownTime, in_millis, level_of, top_of, unit_of};
 use run_lines::outcome_of;
+use std::alloc::AllocError;
 
-// Where the name of a row stands; it is red where a deadline is missed.
-fn name_head(missed: usize) -> &'static [u8]
-    ensures { result.now ≡ codes "<text class=\"" ++ name_class missed ++ codes "\" x=\"500\" y=\"" }
+// A name is red where a deadline is missed.
+fn name_class(missed: usize) -> &'static str
+    ensures { result.now ≡ name_class missed }
 {
-    if missed == 0 {
-        b"<text class=\"n\" x=\"500\" y=\""
-    } else {
-        b"<text class=\"n q\" x=\"500\" y=\""
-    }
+    if missed == 0 { "n" } else { "n q" }
 }
 
 // A row's level, and the tone of its task.
-fn put_level(lane: &Lane<'_>, page: &mut Page)
-    ensures { Adds page.old page.new (level_text lane.now.frame lane.now.spot lane.now.row.now) }
+fn put_level(lane: &Lane<'_>, text: &mut String) -> Result<(), AllocError>
+    ensures { OnOk result (string_bytes text.new ≡ string_bytes text.old ++ level_text lane.now.frame lane.now.spot lane.now.row.now) }
 {
-    let top = top_of(lane.spot.k);
-    page.number(b"<text class=\"v\" x=\"300\" y=\"", top + 230);
-    page.number(b"\">", level_of(lane.frame, lane.spot.rank));
-    page.number(b"</text><rect class=\"f", lane.row.tone);
-    page.number(b"\" x=\"350\" y=\"", top + 130);
-    page.put(b"\" width=\"100\" height=\"100\" rx=\"20\"/>\n")
+    let (level, tone) = (level_of(lane.frame, lane.spot.rank), lane.row.tone);
+    let (y, top) = (top_of(lane.spot.k) + 230, top_of(lane.spot.k) + 130);
+    write!(
+        text,
+        "<text class=\"v\" x=\"300\" y=\"{y}\">{level}</text>\
+        <rect class=\"f{tone}\" x=\"350\" y=\"{top}\" width=\"100\" height=\"100\" rx=\"20\"/>\n"
+    )
 }
 
 // The number of a row's thread, where settings say it, and it isn't the row's level.
-fn put_number(level: u64, number: Option<u64>, page: &mut Page)
-    ensures { Adds page.old page.new (number_words level number) }
+fn put_number(level: u64, number: Option<u64>, text: &mut String) -> Result<(), AllocError>
+    ensures { OnOk result (string_bytes text.new ≡ string_bytes text.old ++ number_words level number) }
 {
     let Some(number) = number else {
-        return;
+        return Ok(());
     };
     if number == level {
-        return;
+        return Ok(());
     }
-    page.number(b"<tspan class=\"nn\" dx=\"45\">", number);
-    page.put(b"</tspan>")
+    write!(text, "<tspan class=\"nn\" dx=\"45\">{number}</tspan>")
 }
 
 // The name of a row, and the number, with what its jobs came to.
-fn put_row_name(missed: usize, lane: &Lane<'_>, jobs: &[JobRecord], page: &mut Page)
-    ensures { Adds page.old page.new (name_text missed jobs.now lane.now.spot.k (level_of
+fn put_row_name(
+    missed: usize,
+    lane: &Lane<'_>,
+    jobs: &[JobRecord],
+    text: &mut String,
+) -> Result<(), AllocError>
+    ensures { OnOk result (string_bytes text.new ≡ string_bytes text.old ++ name_text missed jobs.now lane.now.spot.k (level_of
         lane.now.frame lane.now.spot.rank) lane.now.row.now) }
 {
     let name = lane.row.sheet.name();
     let outcome = outcome_of(jobs, name);
-    page.number(name_head(missed), top_of(lane.spot.k) + 230);
-    page.number(b"\"><title>done: ", outcome.done as u64);
-    page.put(b", greatest response: ");
-    put_greatest(outcome, page);
-    put_known(b", bound: ", lane.row.bound, page);
-    page.name(b" us</title>", name);
-    put_number(level_of(lane.frame, lane.spot.rank), lane.row.number, page);
-    page.put(b"</text>\n")
+    let (class, y, done) = (name_class(missed), top_of(lane.spot.k) + 230, outcome.done);
+    write!(
+        text,
+        "<text class=\"{class}\" x=\"500\" y=\"{y}\"><title>done: {done}, greatest response: "
+    )?;
+    put_greatest(outcome, text)?;
+    let bound = Known(lane.row.bound);
+    write!(text, ", bound: {bound} us</title>{name}")?;
+    put_number(level_of(lane.frame, lane.spot.rank), lane.row.number, text)?;
+    text.push_str("</text>\n")
+}
+
+// A bound, if there is one, up to the deadline behind it.
+fn put_bound(millis: bool, bound: Option<u64>, text: &mut String) -> Result<(), AllocError>
+    ensures { OnOk result (string_bytes text.new ≡ string_bytes text.old ++ bound_words millis bound) }
+{
+    let Some(bound) = bound else {
+        return text.push_str("deadline ");
+    };
+    let bound = ShownTime {
+        millis,
+        micros: bound,
+    };
+    write!(text, "bound {bound} of ")
 }
 
 // The bound and the deadline, in the picture's unit; without a bound the deadline.
-fn put_limits(lane: &Lane<'_>, page: &mut Page)
-    ensures { Adds page.old page.new (limits_text (in_millis lane.now.frame) lane.now.spot.k
-        lane.now.row.now
-        lane.now.row.now.bound) }
+fn put_limits(lane: &Lane<'_>, text: &mut String) -> Result<(), AllocError>
+    ensures { OnOk result (string_bytes text.new ≡ string_bytes text.old ++ limits_text (in_millis lane.now.frame) lane.now.spot.k
+        lane.now.row.now) }
 {
     let millis = in_millis(lane.frame);
-    let deadline = lane.row.sheet.deadline();
-    page.number(b"<text x=\"500\" y=\"", top_of(lane.spot.k) + 355);
-    match lane.row.bound {
-        Some(bound) => {
-            put_time(b"\">bound ", millis, bound, page);
-            put_time(b" of ", millis, deadline, page);
-            put_unit(millis, page);
-            page.put(b"</text>\n")
-        }
-        None => {
-            put_time(b"\">deadline ", millis, deadline, page);
-            put_unit(millis, page);
-            page.put(b"</text>\n")
-        }
-    }
+    let deadline = ShownTime {
+        millis,
+        micros: lane.row.sheet.deadline(),
+    };
+    let (y, unit) = (top_of(lane.spot.k) + 355, unit_of(millis));
+    write!(text, "<text x=\"500\" y=\"{y}\">")?;
+    put_bound(millis, lane.row.bound, text)?;
+    write!(text, "{deadline}{unit}</text>\n")
 }
 
 // By how much, where a job is done late.
-fn put_late(millis: bool, late: u64, page: &mut Page)
-    ensures { Adds page.old page.new (late_words millis late) }
+fn put_late(millis: bool, late: u64, text: &mut String) -> Result<(), AllocError>
+    ensures { OnOk result (string_bytes text.new ≡ string_bytes text.old ++ late_words millis late) }
 {
     if late == 0 {
-        return;
+        return Ok(());
     }
-    put_time(b", ", millis, late, page);
-    put_unit(millis, page);
-    page.put(b" late")
+    let late = ShownTime {
+        millis,
+        micros: late,
+    };
+    let unit = unit_of(millis);
+    write!(text, ", {late}{unit} late")
 }
 
 // Below them how many deadlines are missed, where some are, and by how much at most.
-fn put_missed_line(missed: usize, late: u64, lane: &Lane<'_>, page: &mut Page)
-    ensures { Adds page.old page.new (missed_line (in_millis lane.now.frame) missed late
+fn put_missed_line(
+    missed: usize,
+    late: u64,
+    lane: &Lane<'_>,
+    text: &mut String,
+) -> Result<(), AllocError>
+    ensures { OnOk result (string_bytes text.new ≡ string_bytes text.old ++ missed_line (in_millis lane.now.frame) missed late
         lane.now.spot.k) }
 {
     if missed == 0 {
-        return;
+        return Ok(());
     }
-    page.number(
-        b"<text class=\"qn\" x=\"500\" y=\"",
-        top_of(lane.spot.k) + 460,
-    );
-    page.number(b"\">missed: ", missed as u64);
-    put_late(in_millis(lane.frame), late, page);
-    page.put(b"</text>\n")
+    let y = top_of(lane.spot.k) + 460;
+    write!(
+        text,
+        "<text class=\"qn\" x=\"500\" y=\"{y}\">missed: {missed}"
+    )?;
+    put_late(in_millis(lane.frame), late, text)?;
+    text.push_str("</text>\n")
 }
 
 // A row's part of the margin.
-fn put_margin(lane: &Lane<'_>, jobs: &[JobRecord], page: &mut Page)
-    ensures { Adds page.old page.new (margin_text lane.now.frame jobs.now lane.now.spot
+fn put_margin(lane: &Lane<'_>, jobs: &[JobRecord], text: &mut String) -> Result<(), AllocError>
+    ensures { OnOk result (string_bytes text.new ≡ string_bytes text.old ++ margin_text lane.now.frame jobs.now lane.now.spot
         lane.now.row.now) }
 {
     let missed = missed_in(lane.frame, lane.row, jobs);
-    put_level(lane, page);
-    put_row_name(missed, lane, jobs, page);
-    put_limits(lane, page);
-    put_missed_line(missed, latest_in(lane.row, jobs), lane, page)
+    put_level(lane, text)?;
+    put_row_name(missed, lane, jobs, text)?;
+    put_limits(lane, text)?;
+    put_missed_line(missed, latest_in(lane.row, jobs), lane, text)
 }
 
 // The part of the row at a place, where one stands there.
-fn put_margin_at(chart: &Chart<'_>, k: usize, page: &mut Page)
+fn put_margin_at(chart: &Chart<'_>, k: usize, text: &mut String) -> Result<(), AllocError>
     requires { k < length chart.now.shown.now }
-    ensures { Adds page.old page.new (at_spot chart.now.rows.now (spot_in chart.now.shown.now k)
+    ensures { OnOk result (string_bytes text.new ≡ string_bytes text.old ++ at_spot chart.now.rows.now (spot_in chart.now.shown.now k)
         (margin_text chart.now.frame chart.now.jobs.now)) }
 {
     let spot = chart.spot(k);
-    if spot.rank < chart.rows.len() {
-        put_margin(&chart.lane(spot), chart.jobs, page)
+    if spot.rank >= chart.rows.len() {
+        return Ok(());
     }
+    put_margin(&chart.lane(spot), chart.jobs, text)
 }
 
 // The rows' parts.
-pub(crate) fn put_margins(chart: &Chart<'_>, page: &mut Page)
-    ensures { Adds page.old page.new (margins_text chart.now.frame chart.now.rows.now
+pub(crate) fn put_margins(chart: &Chart<'_>, text: &mut String) -> Result<(), AllocError>
+    ensures { OnOk result (string_bytes text.new ≡ string_bytes text.old ++ margins_text chart.now.frame chart.now.rows.now
         chart.now.shown.now chart.now.jobs.now) }
 {
     for k in 0..chart.shown.len() {
-        put_margin_at(chart, k, page);
+        put_margin_at(chart, k, text)?;
     }
+    Ok(())
 }
 
 // The margin, as a group.
-pub(crate) fn put_group(chart: &Chart<'_>, page: &mut Page)
-    ensures { Adds page.old page.new (margin_group chart.now.frame chart.now.rows.now
+pub(crate) fn put_group(chart: &Chart<'_>, text: &mut String) -> Result<(), AllocError>
+    ensures { OnOk result (string_bytes text.new ≡ string_bytes text.old ++ margin_group chart.now.frame chart.now.rows.now
         chart.now.shown.now chart.now.jobs.now
         chart.now.slices.now) }
 {
-    page.put(b"<g id=\"n\">\n<text x=\"500\" y=\"1200\">time in");
-    put_unit(in_millis(chart.frame), page);
-    page.put(b"</text>\n");
-    put_lane_head(chart, page);
-    put_margins(chart, page);
-    page.put(b"</g>\n")
+    let unit = unit_of(in_millis(chart.frame));
+    write!(
+        text,
+        "<g id=\"n\">\n<text x=\"500\" y=\"1200\">time in{unit}</text>\n"
+    )?;
+    put_lane_head(chart, text)?;
+    put_margins(chart, text)?;
+    text.push_str("</g>\n")
 }
