@@ -111,6 +111,7 @@ fn put_tick(frame: Frame, bottom: u64, time: u64, text: &mut String) -> Result<(
 }
 
 // The scale.
+#[tactic(auto, using(frames::proofs::Eachs::each_init, frames::proofs::Eachs::each_next))]
 pub(crate) fn put_ticks(
     frame: Frame,
     bottom: u64,
@@ -144,6 +145,7 @@ fn put_line(frame: Frame, k: usize, text: &mut String) -> Result<(), AllocError>
 }
 
 // The lines of the rows.
+#[tactic(auto, using(frames::proofs::Eachs::each_init, frames::proofs::Eachs::each_next))]
 fn put_lines(chart: &Chart<'_>, text: &mut String) -> Result<(), AllocError>
     ensures { OnOk result (string_bytes text.new ≡ string_bytes text.old ++ lines_text chart.now.frame (length chart.now.shown.now)) }
 {

@@ -161,6 +161,7 @@ fn put_margin_at(chart: &Chart<'_>, k: usize, text: &mut String) -> Result<(), A
 }
 
 // The rows' parts.
+#[tactic(auto, using(frames::proofs::Eachs::each_init, frames::proofs::Eachs::each_next))]
 pub(crate) fn put_margins(chart: &Chart<'_>, text: &mut String) -> Result<(), AllocError>
     ensures { OnOk result (string_bytes text.new ≡ string_bytes text.old ++ margins_text chart.now.frame chart.now.rows.now
         chart.now.shown.now chart.now.jobs.now) }

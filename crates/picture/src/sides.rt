@@ -184,6 +184,7 @@ fn put_pair(frame: Frame, n: usize, text: &mut String) -> Result<(), AllocError>
 }
 
 // Those of so many places.
+#[tactic(auto, using(frames::proofs::Eachs::each_init, frames::proofs::Eachs::each_next))]
 fn put_pairs(frame: Frame, places: usize, text: &mut String) -> Result<(), AllocError>
     requires { places ≤ PLACES_LIMIT }
     ensures { OnOk result (string_bytes text.new ≡ string_bytes text.old ++ pairs_text frame places) }
@@ -223,6 +224,7 @@ fn put_name_word(
 }
 
 // The same above the names of a run's rows.
+#[tactic(auto, using(frames::proofs::Eachs::each_init, frames::proofs::Eachs::each_next))]
 fn put_name_words(chart: &Chart<'_>, word: &str, text: &mut String) -> Result<(), AllocError>
     ensures { OnOk result (string_bytes text.new ≡ string_bytes text.old ++ at_places chart.now.rows.now chart.now.shown.now
         (name_word word.now)) }

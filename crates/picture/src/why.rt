@@ -259,6 +259,7 @@ fn put_job_waits(
 }
 
 // Puts the waits of each job into the row of its task.
+#[tactic(auto, using(frames::proofs::Eachs::each_init, frames::proofs::Eachs::each_next))]
 pub(crate) fn put_waits(chart: &Chart<'_>, text: &mut String) -> Result<(), AllocError>
     ensures { OnOk result (string_bytes text.new ≡ string_bytes text.old ++ waits_text chart.now.frame chart.now.locks.now
         chart.now.rows.now chart.now.shown.now

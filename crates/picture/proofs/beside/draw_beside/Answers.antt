@@ -1,4 +1,4 @@
-use Rattle.std.proofs.Common.{◌≡◌, ◌∙◌, ℕ, List, subst}
+use Rattle.std.proofs.Common.{◌≡◌, ◌∙◌, ℕ, List, string_bytes, subst}
 use Rattle.std.specs.Prelude.{IfOk}
 use Rattle.picture.specs.Document.{signed}
 use Rattle.picture.specs.Beside.{run_of}
@@ -11,12 +11,12 @@ returns c =
     let locks = c.in_ok-locks.ensures.value in
     let upper = c.chart_of-upper.ensures.scene
     ∙ scene_same (run_of c.args.old.now) (rw until at c.frame_beside-before.ensures)
-    (c.deref-3.ensures.value ∙ locks) (c.deref-2.ensures.value ∙ c.in_ok-sides.ensures.upper) in
+    (c.deref-2.ensures.value ∙ locks) (c.deref.ensures.value ∙ c.in_ok-sides.ensures.upper) in
     let lower = c.chart_of-lower.ensures.scene
     ∙ scene_same (run_of c.args.new.now) (rw until at c.frame_beside-after.ensures)
-    (c.deref-6.ensures.value ∙ locks) (c.deref-5.ensures.value ∙ c.in_ok-sides.ensures.lower) in
-    let title = c.chart_of-lower.ensures.title ∙ c.deref-4.ensures.value in
+    (c.deref-4.ensures.value ∙ locks) (c.deref-3.ensures.value ∙ c.in_ok-sides.ensures.lower) in
+    let title = c.chart_of-lower.ensures.title ∙ c.as_str-2.ensures.value in
     let body = c.in_ok-body_beside.ensures
     ∙ beside_of upper lower title c.chart_of-upper.ensures.until c.chart_of-lower.ensures.until in
-    subst (λ (text : List ℕ). IfOk c.signed.result (λ document. document.items ≡ signed text)) body
+    subst (λ (text : List ℕ). IfOk c.signed.result (λ document. string_bytes document ≡ signed text)) body
     c.signed.ensures

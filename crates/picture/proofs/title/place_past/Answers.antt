@@ -22,7 +22,7 @@ pub loop-place-preserved : goal.loop-place-preserved
 loop-place-preserved c =
     let same = c.as_bytes-bytes.ensures.value in
     let turn = past c.args.title.now c.loop-place.place c.loop-place.left c.letters_at-letters.result
-        (rw same at c.loop-place-test.true) (rw same at c.letters_at-letters.ensures) in
+    (rw same at c.loop-place-test.true) (rw same at c.letters_at-letters.ensures) in
     omega (arith, rw (le-ltb _ _ c.if-left-letters.false) at turn, c.loop-place.invariant)
 
 pub returns : goal.returns
@@ -42,6 +42,9 @@ returns-then-left-letters c =
     let turn = past c.args.title.now c.loop-place.place c.loop-place.left c.letters_at-letters.result lt is in
     record {
       place = omega (arith, rw (lt-ltb _ _ c.if-left-letters.true) at turn, c.loop-place.invariant);
-      within = (omega (arith, lt), λ _ lo. begins (get_or c.args.title.now c.loop-place.place 0)
-      (omega (arith, is, c.if-left-letters.true)) lo);
+      within = (
+        omega (arith, lt),
+        λ _ lo. begins (get_or c.args.title.now c.loop-place.place 0)
+            (omega (arith, is, c.if-left-letters.true)) lo,
+      );
     }

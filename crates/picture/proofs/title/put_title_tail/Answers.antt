@@ -13,13 +13,14 @@ loop-letter-preserved c =
     let is = chars_rest c.next.new.self in
     let step = c.in-Some.ensures.steps.0 in
     let letter = c.in-Some.letter in
-    let text = string_bytes c.loop-letter.text in
-    (IsUtf8-past_char was is letter c.loop-letter.invariant.0 step,
-    ap (λ (l : List ℕ). l ++ flat_map shown_char (chars is)) c.in_ok-put_char.ensures
-    ∙ append_assoc text (shown_char letter) (flat_map shown_char (chars is))
-    ∙ ap (λ (l : List ℕ). text ++ flat_map shown_char l)
-    (sym (chars_past_char was is letter c.loop-letter.invariant.0 step))
-    ∙ c.loop-letter.invariant.1)
+    let text = string_bytes c.loop-letter.text in (
+      IsUtf8-past_char was is letter c.loop-letter.invariant.0 step,
+      ap (λ (l : List ℕ). l ++ flat_map shown_char (chars is)) c.in_ok-put_char.ensures
+          ∙ append_assoc text (shown_char letter) (flat_map shown_char (chars is))
+          ∙ ap (λ (l : List ℕ). text ++ flat_map shown_char l)
+          (sym (chars_past_char was is letter c.loop-letter.invariant.0 step))
+          ∙ c.loop-letter.invariant.1,
+    )
 
 pub returns : goal.returns
 returns c =
