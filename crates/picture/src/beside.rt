@@ -59,7 +59,8 @@ fn sides_of(
 
 // What happens in the rows of a chart. Memory is taken for a count of each job.
 fn put_side(alloc: Global, chart: &Chart<'_>, text: &mut String) -> Result<(), AllocError>
-    ensures { OnOk result (string_bytes text.new ≡ string_bytes text.old ++ side_text (scene_of chart.now)) }
+    ensures { OnOk result (string_bytes text.new ≡ string_bytes text.old
+        ++ side_text (scene_of chart.now)) }
 {
     let mut executed = vec![in alloc; 0; chart.jobs.len()]?;
     put_run(chart, &mut executed, text)

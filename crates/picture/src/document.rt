@@ -19,8 +19,9 @@ pub(crate) fn put_run(
     text: &mut String,
 ) -> Result<(), AllocError>
     requires { AreUncounted executed.old (length chart.now.jobs.now) }
-    ensures { OnOk result (string_bytes text.new ≡ string_bytes text.old ++ run_text chart.now.frame chart.now.locks.now chart.now.rows.now
-        chart.now.shown.now chart.now.releases.now chart.now.jobs.now chart.now.slices.now) }
+    ensures { OnOk result (string_bytes text.new ≡ string_bytes text.old
+        ++ run_text chart.now.frame chart.now.locks.now chart.now.rows.now chart.now.shown.now
+        chart.now.releases.now chart.now.jobs.now chart.now.slices.now) }
 {
     put_jobs(chart, text)?;
     put_all_marks(chart, text)?;

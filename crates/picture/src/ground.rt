@@ -41,7 +41,8 @@ fn put_size(paper: Option<u64>, wide: u64, high: u64, text: &mut String) -> Resu
     requires some { 0 < wide }
     requires wide { wide ≤ 2 * RIGHTMOST }
     requires high { high ≤ 2000000 }
-    ensures { OnOk result (string_bytes text.new ≡ string_bytes text.old ++ size_words paper wide high) }
+    ensures { OnOk result (string_bytes text.new ≡ string_bytes text.old
+        ++ size_words paper wide high) }
 {
     match paper {
         None => {
@@ -66,7 +67,8 @@ pub(crate) fn put_size_head(
     requires some { 0 < wide }
     requires wide { wide ≤ 2 * RIGHTMOST }
     requires high { high ≤ 2000000 }
-    ensures { OnOk result (string_bytes text.new ≡ string_bytes text.old ++ size_head frame.paper wide high) }
+    ensures { OnOk result (string_bytes text.new ≡ string_bytes text.old
+        ++ size_head frame.paper wide high) }
 {
     text.push_str(
         "<?xml version=\"1.0\" encoding=\"UTF-8\"?>\n<svg xmlns=\"http://www.w3.org/2000/svg\" \
@@ -78,9 +80,9 @@ pub(crate) fn put_size_head(
 // The first lines, and the title, with what was given behind it.
 fn put_head(chart: &Chart<'_>, locks: usize, text: &mut String) -> Result<(), AllocError>
     requires { locks ≤ LOCKS_LIMIT }
-    ensures { OnOk result (string_bytes text.new ≡ string_bytes text.old ++ document_head chart.now.frame chart.now.title.now locks
-        (length chart.now.shown.now) (length chart.now.rows.now)
-        (length chart.now.jobs.now) chart.now.until) }
+    ensures { OnOk result (string_bytes text.new ≡ string_bytes text.old
+        ++ document_head chart.now.frame chart.now.title.now locks (length chart.now.shown.now)
+        (length chart.now.rows.now) (length chart.now.jobs.now) chart.now.until) }
 {
     let high = top_of(chart.shown.len()) + 120 + locks_high(chart.frame, locks);
     let wide = end_of(chart.frame) + 200;
@@ -96,7 +98,8 @@ fn put_head(chart: &Chart<'_>, locks: usize, text: &mut String) -> Result<(), Al
 
 // A line down through the rows, and its time.
 fn put_tick(frame: Frame, bottom: u64, time: u64, text: &mut String) -> Result<(), AllocError>
-    ensures { OnOk result (string_bytes text.new ≡ string_bytes text.old ++ tick_text frame bottom time) }
+    ensures { OnOk result (string_bytes text.new ≡ string_bytes text.old
+        ++ tick_text frame bottom time) }
 {
     let (x, number) = (x_of(frame, time), number_x(frame, time));
     let shown = ShownTime {
@@ -120,7 +123,8 @@ pub(crate) fn put_ticks(
 ) -> Result<(), AllocError>
     requires some { 0 < step }
     requires within { step ≤ WIDEST_STEP }
-    ensures { OnOk result (string_bytes text.new ≡ string_bytes text.old ++ ticks_text frame bottom step) }
+    ensures { OnOk result (string_bytes text.new ≡ string_bytes text.old
+        ++ ticks_text frame bottom step) }
 {
     let first = steps_before(frame, step);
     let count = (frame.to / step + 1).saturating_sub(first);
@@ -147,7 +151,8 @@ fn put_line(frame: Frame, k: usize, text: &mut String) -> Result<(), AllocError>
 // The lines of the rows.
 #[tactic(auto, using(frames::proofs::Eachs::each_init, frames::proofs::Eachs::each_next))]
 fn put_lines(chart: &Chart<'_>, text: &mut String) -> Result<(), AllocError>
-    ensures { OnOk result (string_bytes text.new ≡ string_bytes text.old ++ lines_text chart.now.frame (length chart.now.shown.now)) }
+    ensures { OnOk result (string_bytes text.new ≡ string_bytes text.old
+        ++ lines_text chart.now.frame (length chart.now.shown.now)) }
 {
     for k in 0..chart.shown.len() {
         put_line(chart.frame, k, text)?;
@@ -187,7 +192,8 @@ fn put_verdict(
     missed: usize,
     text: &mut String,
 ) -> Result<(), AllocError>
-    ensures { OnOk result (string_bytes text.new ≡ string_bytes text.old ++ verdict_text frame title.now missed) }
+    ensures { OnOk result (string_bytes text.new ≡ string_bytes text.old
+        ++ verdict_text frame title.now missed) }
 {
     put_verdict_head(missed, text)?;
     put_title_in(title, letters_behind(frame, verdict_letters(missed)), text)?;
@@ -196,7 +202,8 @@ fn put_verdict(
 
 // What part of it is drawn, where that isn't all.
 pub(crate) fn put_window(millis: bool, frame: Frame, text: &mut String) -> Result<(), AllocError>
-    ensures { OnOk result (string_bytes text.new ≡ string_bytes text.old ++ window_words millis frame) }
+    ensures { OnOk result (string_bytes text.new ≡ string_bytes text.old
+        ++ window_words millis frame) }
 {
     if frame.from == 0 && frame.to == frame.until {
         return Ok(());
@@ -243,7 +250,8 @@ fn put_what(
     until: u64,
     text: &mut String,
 ) -> Result<(), AllocError>
-    ensures { OnOk result (string_bytes text.new ≡ string_bytes text.old ++ what_text frame rows.now jobs until) }
+    ensures { OnOk result (string_bytes text.new ≡ string_bytes text.old
+        ++ what_text frame rows.now jobs until) }
 {
     let (count, millis) = (rows.len(), in_millis(frame));
     let end = ShownTime {
@@ -268,8 +276,8 @@ pub(crate) fn put_ground(
     text: &mut String,
 ) -> Result<(), AllocError>
     requires { length held.now ≤ LOCKS_LIMIT }
-    ensures { OnOk result (string_bytes text.new ≡ string_bytes text.old ++ ground_text chart.now.frame chart.now.title.now
-        held.now chart.now.rows.now
+    ensures { OnOk result (string_bytes text.new ≡ string_bytes text.old
+        ++ ground_text chart.now.frame chart.now.title.now held.now chart.now.rows.now
         chart.now.shown.now chart.now.jobs.now chart.now.slices.now chart.now.until) }
 {
     let frame = chart.frame;

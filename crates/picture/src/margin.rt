@@ -20,7 +20,8 @@ fn name_class(missed: usize) -> &'static str
 
 // A row's level, and the tone of its task.
 fn put_level(lane: &Lane<'_>, text: &mut String) -> Result<(), AllocError>
-    ensures { OnOk result (string_bytes text.new ≡ string_bytes text.old ++ level_text lane.now.frame lane.now.spot lane.now.row.now) }
+    ensures { OnOk result (string_bytes text.new ≡ string_bytes text.old
+        ++ level_text lane.now.frame lane.now.spot lane.now.row.now) }
 {
     let (level, tone) = (level_of(lane.frame, lane.spot.rank), lane.row.tone);
     let (y, top) = (top_of(lane.spot.k) + 230, top_of(lane.spot.k) + 130);
@@ -33,7 +34,8 @@ fn put_level(lane: &Lane<'_>, text: &mut String) -> Result<(), AllocError>
 
 // The number of a row's thread, where settings say it, and it isn't the row's level.
 fn put_number(level: u64, number: Option<u64>, text: &mut String) -> Result<(), AllocError>
-    ensures { OnOk result (string_bytes text.new ≡ string_bytes text.old ++ number_words level number) }
+    ensures { OnOk result (string_bytes text.new ≡ string_bytes text.old
+        ++ number_words level number) }
 {
     let Some(number) = number else {
         return Ok(());
@@ -51,8 +53,9 @@ fn put_row_name(
     jobs: &[JobRecord],
     text: &mut String,
 ) -> Result<(), AllocError>
-    ensures { OnOk result (string_bytes text.new ≡ string_bytes text.old ++ name_text missed jobs.now lane.now.spot.k (level_of
-        lane.now.frame lane.now.spot.rank) lane.now.row.now) }
+    ensures { OnOk result (string_bytes text.new ≡ string_bytes text.old
+        ++ name_text missed jobs.now lane.now.spot.k (level_of lane.now.frame
+        lane.now.spot.rank) lane.now.row.now) }
 {
     let name = lane.row.sheet.name();
     let outcome = outcome_of(jobs, name);
@@ -70,7 +73,8 @@ fn put_row_name(
 
 // A bound, if there is one, up to the deadline behind it.
 fn put_bound(millis: bool, bound: Option<u64>, text: &mut String) -> Result<(), AllocError>
-    ensures { OnOk result (string_bytes text.new ≡ string_bytes text.old ++ bound_words millis bound) }
+    ensures { OnOk result (string_bytes text.new ≡ string_bytes text.old
+        ++ bound_words millis bound) }
 {
     let Some(bound) = bound else {
         return text.push_str("deadline ");
@@ -84,8 +88,8 @@ fn put_bound(millis: bool, bound: Option<u64>, text: &mut String) -> Result<(), 
 
 // The bound and the deadline, in the picture's unit; without a bound the deadline.
 fn put_limits(lane: &Lane<'_>, text: &mut String) -> Result<(), AllocError>
-    ensures { OnOk result (string_bytes text.new ≡ string_bytes text.old ++ limits_text (in_millis lane.now.frame) lane.now.spot.k
-        lane.now.row.now) }
+    ensures { OnOk result (string_bytes text.new ≡ string_bytes text.old
+        ++ limits_text (in_millis lane.now.frame) lane.now.spot.k lane.now.row.now) }
 {
     let millis = in_millis(lane.frame);
     let deadline = ShownTime {
@@ -100,7 +104,8 @@ fn put_limits(lane: &Lane<'_>, text: &mut String) -> Result<(), AllocError>
 
 // By how much, where a job is done late.
 fn put_late(millis: bool, late: u64, text: &mut String) -> Result<(), AllocError>
-    ensures { OnOk result (string_bytes text.new ≡ string_bytes text.old ++ late_words millis late) }
+    ensures { OnOk result (string_bytes text.new ≡ string_bytes text.old
+        ++ late_words millis late) }
 {
     if late == 0 {
         return Ok(());
@@ -120,8 +125,8 @@ fn put_missed_line(
     lane: &Lane<'_>,
     text: &mut String,
 ) -> Result<(), AllocError>
-    ensures { OnOk result (string_bytes text.new ≡ string_bytes text.old ++ missed_line (in_millis lane.now.frame) missed late
-        lane.now.spot.k) }
+    ensures { OnOk result (string_bytes text.new ≡ string_bytes text.old
+        ++ missed_line (in_millis lane.now.frame) missed late lane.now.spot.k) }
 {
     if missed == 0 {
         return Ok(());
@@ -137,8 +142,8 @@ fn put_missed_line(
 
 // A row's part of the margin.
 fn put_margin(lane: &Lane<'_>, jobs: &[JobRecord], text: &mut String) -> Result<(), AllocError>
-    ensures { OnOk result (string_bytes text.new ≡ string_bytes text.old ++ margin_text lane.now.frame jobs.now lane.now.spot
-        lane.now.row.now) }
+    ensures { OnOk result (string_bytes text.new ≡ string_bytes text.old
+        ++ margin_text lane.now.frame jobs.now lane.now.spot lane.now.row.now) }
 {
     let missed = missed_in(lane.frame, lane.row, jobs);
     put_level(lane, text)?;
@@ -150,8 +155,9 @@ fn put_margin(lane: &Lane<'_>, jobs: &[JobRecord], text: &mut String) -> Result<
 // The part of the row at a place, where one stands there.
 fn put_margin_at(chart: &Chart<'_>, k: usize, text: &mut String) -> Result<(), AllocError>
     requires { k < length chart.now.shown.now }
-    ensures { OnOk result (string_bytes text.new ≡ string_bytes text.old ++ at_spot chart.now.rows.now (spot_in chart.now.shown.now k)
-        (margin_text chart.now.frame chart.now.jobs.now)) }
+    ensures { OnOk result (string_bytes text.new ≡ string_bytes text.old
+        ++ at_spot chart.now.rows.now (spot_in chart.now.shown.now k) (margin_text
+        chart.now.frame chart.now.jobs.now)) }
 {
     let spot = chart.spot(k);
     if spot.rank >= chart.rows.len() {
@@ -163,8 +169,9 @@ fn put_margin_at(chart: &Chart<'_>, k: usize, text: &mut String) -> Result<(), A
 // The rows' parts.
 #[tactic(auto, using(frames::proofs::Eachs::each_init, frames::proofs::Eachs::each_next))]
 pub(crate) fn put_margins(chart: &Chart<'_>, text: &mut String) -> Result<(), AllocError>
-    ensures { OnOk result (string_bytes text.new ≡ string_bytes text.old ++ margins_text chart.now.frame chart.now.rows.now
-        chart.now.shown.now chart.now.jobs.now) }
+    ensures { OnOk result (string_bytes text.new ≡ string_bytes text.old
+        ++ margins_text chart.now.frame chart.now.rows.now chart.now.shown.now
+        chart.now.jobs.now) }
 {
     for k in 0..chart.shown.len() {
         put_margin_at(chart, k, text)?;
@@ -174,9 +181,9 @@ pub(crate) fn put_margins(chart: &Chart<'_>, text: &mut String) -> Result<(), Al
 
 // The margin, as a group.
 pub(crate) fn put_group(chart: &Chart<'_>, text: &mut String) -> Result<(), AllocError>
-    ensures { OnOk result (string_bytes text.new ≡ string_bytes text.old ++ margin_group chart.now.frame chart.now.rows.now
-        chart.now.shown.now chart.now.jobs.now
-        chart.now.slices.now) }
+    ensures { OnOk result (string_bytes text.new ≡ string_bytes text.old
+        ++ margin_group chart.now.frame chart.now.rows.now chart.now.shown.now
+        chart.now.jobs.now chart.now.slices.now) }
 {
     let unit = unit_of(in_millis(chart.frame));
     write!(

@@ -27,7 +27,8 @@ fn put_side_words(
     chart: &Chart<'_>,
     text: &mut String,
 ) -> Result<(), AllocError>
-    ensures { OnOk result (string_bytes text.new ≡ string_bytes text.old ++ side_words millis word.now (scene_of chart.now) chart.now.until) }
+    ensures { OnOk result (string_bytes text.new ≡ string_bytes text.old
+        ++ side_words millis word.now (scene_of chart.now) chart.now.until) }
 {
     let (rows, jobs) = (chart.rows.len(), chart.jobs.len());
     let end = ShownTime {
@@ -48,8 +49,8 @@ fn put_sides_words(
     new: &Chart<'_>,
     text: &mut String,
 ) -> Result<(), AllocError>
-    ensures { OnOk result (string_bytes text.new ≡ string_bytes text.old ++ sides_words millis (scene_of old.now) (scene_of new.now)
-        old.now.until new.now.until) }
+    ensures { OnOk result (string_bytes text.new ≡ string_bytes text.old
+        ++ sides_words millis (scene_of old.now) (scene_of new.now) old.now.until new.now.until) }
 {
     put_side_words(millis, "before:", old, text)?;
     put_side_words(millis, ", after:", new, text)
@@ -58,7 +59,8 @@ fn put_sides_words(
 // How wide and high the picture is.
 fn put_size_beside(new: &Chart<'_>, locks: usize, text: &mut String) -> Result<(), AllocError>
     requires { locks ≤ LOCKS_LIMIT }
-    ensures { OnOk result (string_bytes text.new ≡ string_bytes text.old ++ size_beside (scene_of new.now) locks) }
+    ensures { OnOk result (string_bytes text.new ≡ string_bytes text.old
+        ++ size_beside (scene_of new.now) locks) }
 {
     let high = top_of(new.shown.len()) + 120 + locks_high(new.frame, locks);
     let wide = end_of(new.frame) + 200;
@@ -74,8 +76,9 @@ fn put_head(
     text: &mut String,
 ) -> Result<(), AllocError>
     requires { locks ≤ LOCKS_LIMIT }
-    ensures { OnOk result (string_bytes text.new ≡ string_bytes text.old ++ head_beside (scene_of old.now) (scene_of new.now)
-        new.now.title.now locks old.now.until new.now.until) }
+    ensures { OnOk result (string_bytes text.new ≡ string_bytes text.old
+        ++ head_beside (scene_of old.now) (scene_of new.now) new.now.title.now locks
+        old.now.until new.now.until) }
 {
     put_size_beside(new, locks, text)?;
     put_sides_words(false, old, new, text)?;
@@ -113,7 +116,8 @@ fn put_verdict(
     new: usize,
     text: &mut String,
 ) -> Result<(), AllocError>
-    ensures { OnOk result (string_bytes text.new ≡ string_bytes text.old ++ verdict_beside frame title.now old new) }
+    ensures { OnOk result (string_bytes text.new ≡ string_bytes text.old
+        ++ verdict_beside frame title.now old new) }
 {
     text.push_str("<text class=\"t\" x=\"100\" y=\"200\">before: ")?;
     put_missed(old, text)?;
@@ -126,7 +130,8 @@ fn put_verdict(
 
 // That the bounds of one of them count what the run lacks.
 fn put_unrun_beside(old: &[TaskRow], new: &[TaskRow], text: &mut String) -> Result<(), AllocError>
-    ensures { OnOk result (string_bytes text.new ≡ string_bytes text.old ++ unrun_beside old.now new.now) }
+    ensures { OnOk result (string_bytes text.new ≡ string_bytes text.old
+        ++ unrun_beside old.now new.now) }
 {
     if are_interrupted(old) {
         put_unrun(old, text)
@@ -156,8 +161,8 @@ fn put_what(
     new: &Chart<'_>,
     text: &mut String,
 ) -> Result<(), AllocError>
-    ensures { OnOk result (string_bytes text.new ≡ string_bytes text.old ++ what_beside millis (scene_of old.now) (scene_of new.now)
-        old.now.until new.now.until) }
+    ensures { OnOk result (string_bytes text.new ≡ string_bytes text.old
+        ++ what_beside millis (scene_of old.now) (scene_of new.now) old.now.until new.now.until) }
 {
     let changed = all_changed(known_to(old, new), old.jobs, new.jobs);
     text.push_str("<text x=\"100\" y=\"390\">")?;
@@ -187,7 +192,8 @@ fn put_pair(frame: Frame, n: usize, text: &mut String) -> Result<(), AllocError>
 #[tactic(auto, using(frames::proofs::Eachs::each_init, frames::proofs::Eachs::each_next))]
 fn put_pairs(frame: Frame, places: usize, text: &mut String) -> Result<(), AllocError>
     requires { places ≤ PLACES_LIMIT }
-    ensures { OnOk result (string_bytes text.new ≡ string_bytes text.old ++ pairs_text frame places) }
+    ensures { OnOk result (string_bytes text.new ≡ string_bytes text.old
+        ++ pairs_text frame places) }
 {
     for n in 0..places / 2 {
         put_pair(frame, n, text)?;
@@ -213,8 +219,8 @@ fn put_name_word(
     text: &mut String,
 ) -> Result<(), AllocError>
     requires { k < length chart.now.shown.now }
-    ensures { OnOk result (string_bytes text.new ≡ string_bytes text.old ++ at_spot chart.now.rows.now (spot_in chart.now.shown.now k)
-        (name_word word.now)) }
+    ensures { OnOk result (string_bytes text.new ≡ string_bytes text.old
+        ++ at_spot chart.now.rows.now (spot_in chart.now.shown.now k) (name_word word.now)) }
 {
     let spot = chart.spot(k);
     if spot.rank >= chart.rows.len() {
@@ -226,8 +232,8 @@ fn put_name_word(
 // The same above the names of a run's rows.
 #[tactic(auto, using(frames::proofs::Eachs::each_init, frames::proofs::Eachs::each_next))]
 fn put_name_words(chart: &Chart<'_>, word: &str, text: &mut String) -> Result<(), AllocError>
-    ensures { OnOk result (string_bytes text.new ≡ string_bytes text.old ++ at_places chart.now.rows.now chart.now.shown.now
-        (name_word word.now)) }
+    ensures { OnOk result (string_bytes text.new ≡ string_bytes text.old
+        ++ at_places chart.now.rows.now chart.now.shown.now (name_word word.now)) }
 {
     for k in 0..chart.shown.len() {
         put_name_word(chart, word, k, text)?;
@@ -237,7 +243,8 @@ fn put_name_words(chart: &Chart<'_>, word: &str, text: &mut String) -> Result<()
 
 // The margin of a run.
 fn put_margin_side(chart: &Chart<'_>, word: &str, text: &mut String) -> Result<(), AllocError>
-    ensures { OnOk result (string_bytes text.new ≡ string_bytes text.old ++ margin_side (scene_of chart.now) word.now) }
+    ensures { OnOk result (string_bytes text.new ≡ string_bytes text.old
+        ++ margin_side (scene_of chart.now) word.now) }
 {
     put_margins(chart, text)?;
     put_name_words(chart, word, text)
@@ -245,7 +252,8 @@ fn put_margin_side(chart: &Chart<'_>, word: &str, text: &mut String) -> Result<(
 
 // The margins of both, as a group.
 fn put_margins_beside(old: &Chart<'_>, new: &Chart<'_>, text: &mut String) -> Result<(), AllocError>
-    ensures { OnOk result (string_bytes text.new ≡ string_bytes text.old ++ margins_beside (scene_of old.now) (scene_of new.now)) }
+    ensures { OnOk result (string_bytes text.new ≡ string_bytes text.old
+        ++ margins_beside (scene_of old.now) (scene_of new.now)) }
 {
     let unit = unit_of(in_millis(new.frame));
     write!(
@@ -274,8 +282,9 @@ pub(crate) fn put_ground_beside(
     text: &mut String,
 ) -> Result<(), AllocError>
     requires { length held.now ≤ LOCKS_LIMIT }
-    ensures { OnOk result (string_bytes text.new ≡ string_bytes text.old ++ ground_beside (scene_of old.now) (scene_of new.now)
-        new.now.title.now held.now old.now.until new.now.until) }
+    ensures { OnOk result (string_bytes text.new ≡ string_bytes text.old
+        ++ ground_beside (scene_of old.now) (scene_of new.now) new.now.title.now held.now
+        old.now.until new.now.until) }
 {
     let frame = new.frame;
     let places = new.shown.len();
@@ -294,7 +303,8 @@ pub(crate) fn put_ground_beside(
 // A line and words in a lane.
 fn put_end_at(frame: Frame, words: &str, x: u64, text: &mut String) -> Result<(), AllocError>
     requires { x ≤ RIGHTMOST }
-    ensures { OnOk result (string_bytes text.new ≡ string_bytes text.old ++ end_at frame words.now x) }
+    ensures { OnOk result (string_bytes text.new ≡ string_bytes text.old
+        ++ end_at frame words.now x) }
 {
     let place = (x + 40).min(end_of(frame).saturating_sub(400));
     write!(
@@ -328,7 +338,8 @@ fn put_end(frame: Frame, text: &mut String) -> Result<(), AllocError>
 
 // The lane of the processor, with a word that says of which run, and where that ends.
 fn put_lane_side(chart: &Chart<'_>, word: &str, text: &mut String) -> Result<(), AllocError>
-    ensures { OnOk result (string_bytes text.new ≡ string_bytes text.old ++ lane_side (scene_of chart.now) word.now) }
+    ensures { OnOk result (string_bytes text.new ≡ string_bytes text.old
+        ++ lane_side (scene_of chart.now) word.now) }
 {
     put_lane_line(chart.frame, text)?;
     put_lane_head(chart, text)?;
@@ -343,7 +354,8 @@ pub(crate) fn put_lanes_beside(
     new: &Chart<'_>,
     text: &mut String,
 ) -> Result<(), AllocError>
-    ensures { OnOk result (string_bytes text.new ≡ string_bytes text.old ++ lanes_beside (scene_of old.now) (scene_of new.now)) }
+    ensures { OnOk result (string_bytes text.new ≡ string_bytes text.old
+        ++ lanes_beside (scene_of old.now) (scene_of new.now)) }
 {
     put_lane_side(old, "before", text)?;
     text.push_str("<g transform=\"translate(0 480)\">\n")?;

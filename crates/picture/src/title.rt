@@ -77,7 +77,8 @@ fn place_past(title: &str, room: usize) -> usize
 
 // A title in so many letters, cut where it is longer.
 pub(crate) fn put_title_in(title: &str, room: usize, text: &mut String) -> Result<(), AllocError>
-    ensures { OnOk result (string_bytes text.new ≡ string_bytes text.old ++ title_in title.now room) }
+    ensures { OnOk result (string_bytes text.new ≡ string_bytes text.old
+        ++ title_in title.now room) }
 {
     if place_past(title, room) == title.len() {
         put_title_tail(title, text)

@@ -35,7 +35,8 @@ fn put_lock(lock: &Option<Name>, text: &mut String) -> Result<(), AllocError>
 
 // A path for a wait for a task above, in its tone or in the neutral ink.
 fn put_ink(gathered: bool, tone: u64, text: &mut String) -> Result<(), AllocError>
-    ensures { OnOk result (string_bytes text.new ≡ string_bytes text.old ++ ink_path gathered tone) }
+    ensures { OnOk result (string_bytes text.new ≡ string_bytes text.old
+        ++ ink_path gathered tone) }
 {
     if gathered {
         text.push_str("<path class=\"wa ns")
@@ -64,7 +65,8 @@ fn put_title(
 ) -> Result<(), AllocError>
     requires row { k < length chart.now.rows.now }
     requires other { wait.row < length chart.now.rows.now }
-    ensures { OnOk result (string_bytes text.new ≡ string_bytes text.old ++ wait_title chart.now.rows.now k wait how.now lock.now) }
+    ensures { OnOk result (string_bytes text.new ≡ string_bytes text.old
+        ++ wait_title chart.now.rows.now k wait how.now lock.now) }
 {
     let (name, other) = (name_in(chart.rows, k), name_in(chart.rows, wait.row));
     write!(text, "{name}{how}{other} ")?;
@@ -84,7 +86,8 @@ fn put_above(
     requires row { spot.rank < length chart.now.rows.now }
     requires place { spot.k ≤ PLACES_LIMIT }
     requires other { wait.row < length chart.now.rows.now }
-    ensures { OnOk result (string_bytes text.new ≡ string_bytes text.old ++ above_text (scene_of chart.now) spot wait gathered) }
+    ensures { OnOk result (string_bytes text.new ≡ string_bytes text.old
+        ++ above_text (scene_of chart.now) spot wait gathered) }
 {
     let x = x_of(chart.frame, wait.start);
     let right = x_of(chart.frame, wait.stop).max(x + 1);
@@ -109,7 +112,8 @@ fn put_link(
     text: &mut String,
 ) -> Result<(), AllocError>
     requires { k ≤ PLACES_LIMIT }
-    ensures { OnOk result (string_bytes text.new ≡ string_bytes text.old ++ link_text (scene_of chart.now) k wait tone) }
+    ensures { OnOk result (string_bytes text.new ≡ string_bytes text.old
+        ++ link_text (scene_of chart.now) k wait tone) }
 {
     if !has_link(chart.frame, wait) {
         return Ok(());
@@ -136,7 +140,8 @@ fn put_blocked(
     requires row { spot.rank < length chart.now.rows.now }
     requires place { spot.k ≤ PLACES_LIMIT }
     requires other { wait.row < length chart.now.rows.now }
-    ensures { OnOk result (string_bytes text.new ≡ string_bytes text.old ++ blocked_text (scene_of chart.now) spot wait lock) }
+    ensures { OnOk result (string_bytes text.new ≡ string_bytes text.old
+        ++ blocked_text (scene_of chart.now) spot wait lock) }
 {
     let tone = tone_of_lock(chart.locks, &lock);
     let start = x_of(chart.frame, wait.start);
@@ -152,7 +157,8 @@ fn put_blocked(
 fn put_who(chart: &Chart<'_>, k: usize, wait: Wait, text: &mut String) -> Result<(), AllocError>
     requires place { k ≤ PLACES_LIMIT }
     requires other { wait.row < length chart.now.rows.now }
-    ensures { OnOk result (string_bytes text.new ≡ string_bytes text.old ++ who_text (scene_of chart.now) k wait) }
+    ensures { OnOk result (string_bytes text.new ≡ string_bytes text.old
+        ++ who_text (scene_of chart.now) k wait) }
 {
     let x = x_of(chart.frame, wait.start);
     let right = x_of(chart.frame, wait.stop);
@@ -180,7 +186,8 @@ fn put_why(
     requires place { spot.k ≤ PLACES_LIMIT }
     requires other { wait.row < length chart.now.rows.now }
     requires slice { n < length chart.now.slices.now }
-    ensures { OnOk result (string_bytes text.new ≡ string_bytes text.old ++ why_text (scene_of chart.now) stay spot n wait) }
+    ensures { OnOk result (string_bytes text.new ≡ string_bytes text.old
+        ++ why_text (scene_of chart.now) stay spot n wait) }
 {
     if spot.rank < wait.row {
         let lock = blocking_lock(chart.rows, chart.slices, spot.rank, n, wait.start, wait.row);
@@ -202,7 +209,8 @@ fn put_nth_wait(
     requires row { spot.rank < length chart.now.rows.now }
     requires place { spot.k ≤ PLACES_LIMIT }
     requires slice { n < length chart.now.slices.now }
-    ensures { OnOk result (string_bytes text.new ≡ string_bytes text.old ++ nth_wait_text (scene_of chart.now) stay spot n) }
+    ensures { OnOk result (string_bytes text.new ≡ string_bytes text.old
+        ++ nth_wait_text (scene_of chart.now) stay spot n) }
 {
     let Some(wait) = wait_at(chart, stay, n) else {
         return Ok(());
@@ -227,7 +235,8 @@ fn put_stay(
     requires within { past.count ≤ length chart.now.slices.now }
     requires ended { EndBy chart.now.slices.now past.count past.time }
     requires before { past.time ≤ stay.from }
-    ensures { OnOk result (string_bytes text.new ≡ string_bytes text.old ++ stay_text (scene_of chart.now) stay spot) }
+    ensures { OnOk result (string_bytes text.new ≡ string_bytes text.old
+        ++ stay_text (scene_of chart.now) stay spot) }
 {
     for n in past.count..chart.slices.len() {
         if is_behind(chart, stay, n) {
@@ -249,7 +258,8 @@ fn put_job_waits(
     requires within { past.count ≤ length chart.now.slices.now }
     requires ended { EndBy chart.now.slices.now past.count past.time }
     requires before { past.time ≤ (stay_of (scene_of chart.now) j).from }
-    ensures { OnOk result (string_bytes text.new ≡ string_bytes text.old ++ job_waits (scene_of chart.now) j) }
+    ensures { OnOk result (string_bytes text.new ≡ string_bytes text.old
+        ++ job_waits (scene_of chart.now) j) }
 {
     let name = name_of(chart.jobs, j);
     match chart.spot_of(name) {
@@ -261,8 +271,8 @@ fn put_job_waits(
 // Puts the waits of each job into the row of its task.
 #[tactic(auto, using(frames::proofs::Eachs::each_init, frames::proofs::Eachs::each_next))]
 pub(crate) fn put_waits(chart: &Chart<'_>, text: &mut String) -> Result<(), AllocError>
-    ensures { OnOk result (string_bytes text.new ≡ string_bytes text.old ++ waits_text chart.now.frame chart.now.locks.now
-        chart.now.rows.now chart.now.shown.now
+    ensures { OnOk result (string_bytes text.new ≡ string_bytes text.old
+        ++ waits_text chart.now.frame chart.now.locks.now chart.now.rows.now chart.now.shown.now
         chart.now.releases.now chart.now.jobs.now chart.now.slices.now) }
 {
     let mut past = Past { count: 0, time: 0 };
