@@ -1,11 +1,10 @@
 -- How a way is drawn: a dot where a job reads, a line along its row to where it writes, from there a line to the row of the job
 -- that reads what it wrote, and dots up to where that does.
-use Rattle.std.specs.Prelude.{ℕ, ◌+◌, if◌then◌else◌, List, [], ◌∷◌, ◌++◌, codes, nat_lt, slice_index_or, length}
+use Rattle.std.specs.Prelude.{ℕ, ◌+◌, if◌then◌else◌, List, [], ◌∷◌, ◌++◌, codes}
 use Rattle.std.specs.Fmt.{decimal}
 use Rattle.std.specs.List.{concat}
 use Rattle.frames.specs.Frame.{Frame, is_in, sees, top_of, x_of}
 use Rattle.frames.specs.Numbers.{times_end}
-use Rattle.frames.specs.PictureRows.{each}
 use Rattle.drawn_ways.specs.declared.marks.Ink.{Ink}
 use Rattle.drawn_ways.specs.declared.marks.Ink.TheVariants.{Standing, Next}
 use Rattle.drawn_ways.specs.declared.stops.Stop.{Stop}
@@ -62,26 +61,17 @@ abbrev pub link_text : Frame → Ink → (chain : List ℕ) → Stop → (next :
 link_text f ink chain s next =
     turn_text f ink s next ++ along_text f ink (codes " yw") chain (codes ": waits for ") (wait_of s next)
 
--- ---- the way
--- stands past the end of some jobs
-abbrev pub no_stop : Stop
-no_stop = record { name = []; k = 0; start = 0; stop = 0 }
+-- ---- the way, of which the last job stands first
+-- how what the last of the jobs before one wrote comes to that, if there are some
+abbrev pub link_to_text : Frame → Ink → (chain : List ℕ) → Stop → (before : List Stop) → List ℕ
+link_to_text f ink chain s [] = []
+link_to_text f ink chain s (last ∷ before) = link_text f ink chain last s
 
--- the job at a place, from 0
-abbrev pub stop_in : List Stop → ℕ → Stop
-stop_in stops i = slice_index_or stops i no_stop
-
--- of a way, of which the last job stands first: how what the job before job i wrote comes to that, if there is one
-abbrev pub link_to_text : Frame → Ink → (chain : List ℕ) → List Stop → (i : ℕ) → List ℕ
-link_to_text f ink chain stops i =
-    if nat_lt (i + 1) (length stops)
-    then link_text f ink chain (stop_in stops (i + 1)) (stop_in stops i)
-    else []
-
--- the same, and job i
-abbrev pub nth_text : Frame → Ink → (chain : List ℕ) → List Stop → (i : ℕ) → List ℕ
-nth_text f ink chain stops i =
-    link_to_text f ink chain stops i ++ job_text f ink chain (stop_in stops i)
+-- the same, and the job
+abbrev pub stop_text : Frame → Ink → (chain : List ℕ) → Stop → (before : List Stop) → List ℕ
+stop_text f ink chain s before = link_to_text f ink chain s before ++ job_text f ink chain s
 
 abbrev pub stops_text : Frame → Ink → (chain : List ℕ) → List Stop → List ℕ
-stops_text f ink chain stops = each (length stops) (nth_text f ink chain stops)
+stops_text f ink chain [] = []
+stops_text f ink chain (s ∷ before) =
+    stop_text f ink chain s before ++ stops_text f ink chain before

@@ -1,13 +1,13 @@
 //! How a way is drawn.
-ghost use Rattle.std.specs.Prelude.{◌<◌, ◌+◌, ◌≡◌, ◌≤◌, All, length};
-ghost use Rattle.frames.specs.Page.{Adds};
+ghost use Rattle.std.specs.Prelude.{◌≡◌, ◌++◌, ◌≤◌, All, OnOk, string_bytes};
 ghost use Rattle.frames.specs.Frame.{is_in};
 ghost use Rattle.frames.specs.declared.frame.TheConstants.{RIGHTMOST};
 ghost use Rattle.frames.specs.declared.places.TheConstants.{PLACES_LIMIT};
-ghost use Rattle.drawn_ways.specs.WayMarks.{along_text, class_of, dot_text, job_text, line_y, link_text, link_to_text, nth_text, path_head, stops_text, turn_text, wait_of};
+ghost use Rattle.drawn_ways.specs.WayMarks.{along_text, class_of, dot_text, job_text, line_y, link_text, link_to_text, path_head, stop_text, stops_text, turn_text, wait_of};
 
 use crate::stops::Stop;
-use frames::{Frame, Page, put_times, sees, top_of, x_of};
+use frames::{Frame, put_times, sees, top_of, x_of};
+use std::alloc::AllocError;
 use task_sheet::Name;
 
 // Whose way it is: that of what stands longest, or of what comes next.
@@ -18,12 +18,12 @@ pub(crate) enum Ink {
 }
 
 // The class of its lines.
-fn class_of(ink: Ink) -> &'static [u8]
+fn class_of(ink: Ink) -> &'static str
     ensures { result.now ≡ class_of ink }
 {
     match ink {
-        Ink::Standing => b"ya",
-        Ink::Next => b"yb",
+        Ink::Standing => "ya",
+        Ink::Next => "yb",
     }
 }
 
@@ -46,70 +46,88 @@ fn is_in(frame: Frame, time: u64) -> bool
 }
 
 // A path, up to where it begins.
-fn put_head(ink: Ink, class: &[u8], x: u64, k: usize, page: &mut Page)
+fn put_head(text: &mut String, ink: Ink, class: &str, x: u64, k: usize) -> Result<(), AllocError>
     requires { k ≤ PLACES_LIMIT }
-    ensures { Adds page.old page.new (path_head ink class.now x k) }
+    ensures { OnOk result (string_bytes text.new ≡ string_bytes text.old
+        ++ path_head ink class.now x k) }
 {
-    page.put(b"<path class=\"");
-    page.put(class_of(ink));
-    page.put(class);
-    page.number(b"\" d=\"M", x);
-    page.number(b" ", line_y(ink, k))
+    let way = class_of(ink);
+    let y = line_y(ink, k);
+    write!(text, "<path class=\"{way}{class}\" d=\"M{x} {y}")
 }
 
 // A line along a row, where it is seen, and what it tells of a chain.
 pub(crate) fn put_along(
+    text: &mut String,
     frame: Frame,
     ink: Ink,
-    class: &[u8],
+    class: &str,
     chain: Name,
-    how: &[u8],
+    how: &str,
     line: &Stop,
-    page: &mut Page,
-)
+) -> Result<(), AllocError>
     requires { line.now.k ≤ PLACES_LIMIT }
-    ensures { Adds page.old page.new (along_text frame ink class.now chain how.now line.now) }
+    ensures { OnOk result (string_bytes text.new ≡ string_bytes text.old
+        ++ along_text frame ink class.now chain how.now line.now) }
 {
-    if sees(frame, line.start, line.stop) {
-        put_head(ink, class, x_of(frame, line.start), line.k, page);
-        page.number(b"H", x_of(frame, line.stop));
-        page.name(b"\"><title>", chain);
-        page.name(how, line.name);
-        put_times(b" ", line.start, line.stop, page)
+    if !sees(frame, line.start, line.stop) {
+        return Ok(());
     }
+    let right = x_of(frame, line.stop);
+    let name = line.name;
+    put_head(text, ink, class, x_of(frame, line.start), line.k)?;
+    write!(text, "H{right}\"><title>{chain}{how}{name} ")?;
+    put_times(text, line.start, line.stop)
 }
 
 // A dot, where a job reads in the window.
-fn put_dot(frame: Frame, ink: Ink, stop: &Stop, page: &mut Page)
+fn put_dot(text: &mut String, frame: Frame, ink: Ink, stop: &Stop) -> Result<(), AllocError>
     requires { stop.now.k ≤ PLACES_LIMIT }
-    ensures { Adds page.old page.new (dot_text frame ink stop.now) }
+    ensures { OnOk result (string_bytes text.new ≡ string_bytes text.old
+        ++ dot_text frame ink stop.now) }
 {
-    if is_in(frame, stop.start) {
-        put_head(ink, b" yd", x_of(frame, stop.start), stop.k, page);
-        page.put(b"h1\"/>\n")
+    if !is_in(frame, stop.start) {
+        return Ok(());
     }
+    put_head(text, ink, " yd", x_of(frame, stop.start), stop.k)?;
+    text.push_str("h1\"/>\n")
 }
 
 // The same, and a line.
-fn put_job(frame: Frame, ink: Ink, chain: Name, stop: &Stop, page: &mut Page)
+fn put_job(
+    text: &mut String,
+    frame: Frame,
+    ink: Ink,
+    chain: Name,
+    stop: &Stop,
+) -> Result<(), AllocError>
     requires { stop.now.k ≤ PLACES_LIMIT }
-    ensures { Adds page.old page.new (job_text frame ink chain stop.now) }
+    ensures { OnOk result (string_bytes text.new ≡ string_bytes text.old
+        ++ job_text frame ink chain stop.now) }
 {
-    put_dot(frame, ink, stop, page);
-    put_along(frame, ink, b"", chain, b": ", stop, page)
+    put_dot(text, frame, ink, stop)?;
+    put_along(text, frame, ink, "", chain, ": ", stop)
 }
 
 // A line to the row of the next job, where a job writes in the window.
-fn put_turn(frame: Frame, ink: Ink, stop: &Stop, next: &Stop, page: &mut Page)
+fn put_turn(
+    text: &mut String,
+    frame: Frame,
+    ink: Ink,
+    stop: &Stop,
+    next: &Stop,
+) -> Result<(), AllocError>
     requires place { stop.now.k ≤ PLACES_LIMIT }
     requires next { next.now.k ≤ PLACES_LIMIT }
-    ensures { Adds page.old page.new (turn_text frame ink stop.now next.now) }
+    ensures { OnOk result (string_bytes text.new ≡ string_bytes text.old
+        ++ turn_text frame ink stop.now next.now) }
 {
-    if is_in(frame, stop.stop) {
-        put_head(ink, b"", x_of(frame, stop.stop), stop.k, page);
-        page.number(b"V", line_y(ink, next.k));
-        page.put(b"\"/>\n")
+    if !is_in(frame, stop.stop) {
+        return Ok(());
     }
+    let y = line_y(ink, next.k);
+    put_head(text, ink, "", x_of(frame, stop.stop), stop.k)?;
+    writeln!(text, "V{y}\"/>")
 }
 
 // What a job wrote, until the next one reads.
@@ -125,43 +143,78 @@ fn wait_of(stop: &Stop, next: &Stop) -> Stop
 }
 
 // How it comes to the next one.
-fn put_link(frame: Frame, ink: Ink, chain: Name, stop: &Stop, next: &Stop, page: &mut Page)
+fn put_link(
+    text: &mut String,
+    frame: Frame,
+    ink: Ink,
+    chain: Name,
+    stop: &Stop,
+    next: &Stop,
+) -> Result<(), AllocError>
     requires place { stop.now.k ≤ PLACES_LIMIT }
     requires next { next.now.k ≤ PLACES_LIMIT }
-    ensures { Adds page.old page.new (link_text frame ink chain stop.now next.now) }
+    ensures { OnOk result (string_bytes text.new ≡ string_bytes text.old
+        ++ link_text frame ink chain stop.now next.now) }
 {
-    put_turn(frame, ink, stop, next, page);
     let wait = wait_of(stop, next);
-    put_along(frame, ink, b" yw", chain, b": waits for ", &wait, page)
+    put_turn(text, frame, ink, stop, next)?;
+    put_along(text, frame, ink, " yw", chain, ": waits for ", &wait)
 }
 
-// How what the job before job i wrote comes to that, if there is one.
-fn put_link_to(frame: Frame, ink: Ink, chain: Name, stops: &[Stop], i: usize, page: &mut Page)
-    requires places { All (λ s. s.k ≤ PLACES_LIMIT) stops.now }
-    requires job { i < length stops.now }
-    ensures { Adds page.old page.new (link_to_text frame ink chain stops.now i) }
+// How what the last of the jobs before one wrote comes to that, if there are some.
+fn put_link_to(
+    text: &mut String,
+    frame: Frame,
+    ink: Ink,
+    chain: Name,
+    stop: &Stop,
+    before: &[Stop],
+) -> Result<(), AllocError>
+    requires place { stop.now.k ≤ PLACES_LIMIT }
+    requires before { All (λ s. s.k ≤ PLACES_LIMIT) before.now }
+    ensures { OnOk result (string_bytes text.new ≡ string_bytes text.old
+        ++ link_to_text frame ink chain stop.now before.now) }
 {
-    if stops.len() - i > 1 {
-        put_link(frame, ink, chain, &stops[i + 1], &stops[i], page)
+    match before.first() {
+        Some(last) => put_link(text, frame, ink, chain, last, stop),
+        None => Ok(()),
     }
 }
 
-// Job i of a way, of which the last stands first, and how what the one before it wrote comes to it.
-fn put_nth(frame: Frame, ink: Ink, chain: Name, stops: &[Stop], i: usize, page: &mut Page)
-    requires places { All (λ s. s.k ≤ PLACES_LIMIT) stops.now }
-    requires job { i < length stops.now }
-    ensures { Adds page.old page.new (nth_text frame ink chain stops.now i) }
+// The same, and the job.
+fn put_stop(
+    text: &mut String,
+    frame: Frame,
+    ink: Ink,
+    chain: Name,
+    stop: &Stop,
+    before: &[Stop],
+) -> Result<(), AllocError>
+    requires place { stop.now.k ≤ PLACES_LIMIT }
+    requires before { All (λ s. s.k ≤ PLACES_LIMIT) before.now }
+    ensures { OnOk result (string_bytes text.new ≡ string_bytes text.old
+        ++ stop_text frame ink chain stop.now before.now) }
 {
-    put_link_to(frame, ink, chain, stops, i, page);
-    put_job(frame, ink, chain, &stops[i], page)
+    put_link_to(text, frame, ink, chain, stop, before)?;
+    put_job(text, frame, ink, chain, stop)
 }
 
-// Puts a way.
-pub(crate) fn put_stops(frame: Frame, ink: Ink, chain: Name, stops: &[Stop], page: &mut Page)
+// Puts a way, of which the last job stands first.
+pub(crate) fn put_stops(
+    text: &mut String,
+    frame: Frame,
+    ink: Ink,
+    chain: Name,
+    stops: &[Stop],
+) -> Result<(), AllocError>
     requires { All (λ s. s.k ≤ PLACES_LIMIT) stops.now }
-    ensures { Adds page.old page.new (stops_text frame ink chain stops.now) }
+    ensures { OnOk result (string_bytes text.new ≡ string_bytes text.old
+        ++ stops_text frame ink chain stops.now) }
 {
-    for i in 0..stops.len() {
-        put_nth(frame, ink, chain, stops, i, page);
+    let mut rest = stops;
+    while let Some((stop, before)) = rest.split_first() {
+        put_stop(text, frame, ink, chain, stop, before)?;
+        rest = before;
     }
+    Ok(())
 }

@@ -1,10 +1,10 @@
 //! What the signs of a way mean: each stands where the ways have what it stands for.
-ghost use Rattle.std.specs.Prelude.{◌≡◌};
-ghost use Rattle.frames.specs.Page.{Adds};
+ghost use Rattle.std.specs.Prelude.{◌≡◌, ◌++◌, OnOk, string_bytes};
 ghost use Rattle.drawn_ways.specs.WaySigns.{reads_sign, signs_text, writes_sign};
 
 use chains::Writes;
-use frames::{Page, put_sign, put_sign_of};
+use frames::{put_sign, put_sign_of};
+use std::alloc::AllocError;
 
 // A job reads as it begins, or as it arrives.
 const BEGINS: &str = concat!(
@@ -65,30 +65,26 @@ fn writes_sign(writes: Writes) -> &'static str
 }
 
 // Puts the signs that some ways have.
-pub(crate) fn put_signs(writes: Writes, ways: &[u8], page: &mut Page)
-    ensures { Adds page.old page.new (signs_text writes ways.now) }
+pub(crate) fn put_signs(text: &mut String, writes: Writes, ways: &str) -> Result<(), AllocError>
+    ensures { OnOk result (string_bytes text.new ≡ string_bytes text.old
+        ++ signs_text writes ways.now) }
 {
+    let (reads, to) = (reads_sign(writes), writes_sign(writes));
     put_sign_of(
+        text,
         ways,
-        b"<path class=\"ya yd\"",
-        b"<path class=\"yb yd\"",
-        reads_sign(writes),
-        page,
-    );
+        "<path class=\"ya yd\"",
+        "<path class=\"yb yd\"",
+        reads,
+    )?;
+    put_sign_of(text, ways, "<path class=\"ya\"", "<path class=\"yb\"", to)?;
     put_sign_of(
+        text,
         ways,
-        b"<path class=\"ya\"",
-        b"<path class=\"yb\"",
-        writes_sign(writes),
-        page,
-    );
-    put_sign_of(
-        ways,
-        b"<path class=\"ya yw\"",
-        b"<path class=\"yb yw\"",
+        "<path class=\"ya yw\"",
+        "<path class=\"yb yw\"",
         WAITS,
-        page,
-    );
-    put_sign(ways, b"<path class=\"ya ys\"", STANDS, page);
-    put_sign(ways, b"<path class=\"yb", NEXT, page)
+    )?;
+    put_sign(text, ways, "<path class=\"ya ys\"", STANDS)?;
+    put_sign(text, ways, "<path class=\"yb", NEXT)
 }

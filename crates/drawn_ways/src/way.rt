@@ -1,6 +1,5 @@
 //! What is drawn of a chain in the picture of a run.
-ghost use Rattle.std.specs.Prelude.{◌≡◌, ◌++◌, ◌≤◌, All, IfOk, OnOk, length, option_map};
-ghost use Rattle.frames.specs.Page.{Adds};
+ghost use Rattle.std.specs.Prelude.{◌≡◌, ◌++◌, ◌≤◌, All, IfOk, OnOk, length, option_map, string_bytes};
 ghost use Rattle.frames.specs.declared.places.TheConstants.{PLACES_LIMIT};
 ghost use Rattle.drawn_ways.specs.Stands.{age_of, oldest};
 ghost use Rattle.drawn_ways.specs.WayTexts.{age_text, age_x, chain_line, drawn_of, ground_of, half_room, laid_over, later, stay_behind, stay_of, stay_text, stops_at, stops_then, told_time, way_of, way_text, ways_of, ways_text};
@@ -16,9 +15,7 @@ use crate::style::STYLE;
 use ceiling_kernel::Trace;
 use chain_runs::ChainOutput;
 use chains::Writes;
-use frames::{
-    Frame, Page, TaskRow, end_of, in_millis, put_time, put_unit, sees, start_of, top_of, x_of,
-};
+use frames::{Frame, TaskRow, end_of, in_millis, put_time, put_unit, sees, start_of, top_of, x_of};
 use std::alloc::{AllocError, Global};
 use task_sheet::{Name, TaskSet};
 
@@ -31,21 +28,16 @@ pub struct Way<'a> {
     pub bound: Option<u64>,
 }
 
-// Puts bytes, and a time in the picture's unit, or `-` where there is none.
-fn put_told(before: &[u8], frame: Frame, time: Option<u64>, page: &mut Page)
-    ensures { Adds page.old page.new (before.now ++ told_time frame time) }
+// Puts a time in the picture's unit, or `-` where there is none.
+fn put_told(text: &mut String, frame: Frame, time: Option<u64>) -> Result<(), AllocError>
+    ensures { OnOk result (string_bytes text.new ≡ string_bytes text.old ++ told_time frame time) }
 {
-    match time {
-        None => {
-            page.put(before);
-            page.put(b"-")
-        }
-        Some(time) => {
-            let millis = in_millis(frame);
-            put_time(before, millis, time, page);
-            put_unit(millis, page)
-        }
-    }
+    let Some(time) = time else {
+        return text.push_str("-");
+    };
+    let millis = in_millis(frame);
+    put_time(text, millis, time)?;
+    put_unit(text, millis)
 }
 
 // Half of the room that a chain's name and an age take.
@@ -67,17 +59,25 @@ fn age_x(frame: Frame, chain: Name, line: &Stop) -> u64
 }
 
 // The chain, and how old it gets, above a line that is seen.
-fn put_age(frame: Frame, chain: Name, line: &Stop, age: u64, page: &mut Page)
+fn put_age(
+    text: &mut String,
+    frame: Frame,
+    chain: Name,
+    line: &Stop,
+    age: u64,
+) -> Result<(), AllocError>
     requires { line.now.k ≤ PLACES_LIMIT }
-    ensures { Adds page.old page.new (age_text frame chain line.now age) }
+    ensures { OnOk result (string_bytes text.new ≡ string_bytes text.old
+        ++ age_text frame chain line.now age) }
 {
-    if sees(frame, line.start, line.stop) {
-        page.number(b"<text class=\"yt\" x=\"", age_x(frame, chain, line));
-        page.number(b"\" y=\"", top_of(line.k) + 140);
-        page.name(b"\">", chain);
-        put_told(b" ", frame, Some(age), page);
-        page.put(b"</text>\n")
+    if !sees(frame, line.start, line.stop) {
+        return Ok(());
     }
+    let x = age_x(frame, chain, line);
+    let y = top_of(line.k) + 140;
+    write!(text, "<text class=\"yt\" x=\"{x}\" y=\"{y}\">{chain} ")?;
+    put_told(text, frame, Some(age))?;
+    text.push_str("</text>\n")
 }
 
 // From when to when it stands, in the row of the last task's job.
@@ -93,31 +93,45 @@ fn stay_of(stand: Stand, last: &Stop) -> Stop
 }
 
 // The same, drawn.
-fn put_stay(frame: Frame, chain: Name, stand: Stand, last: &Stop, page: &mut Page)
+fn put_stay(
+    text: &mut String,
+    frame: Frame,
+    chain: Name,
+    stand: Stand,
+    last: &Stop,
+) -> Result<(), AllocError>
     requires { last.now.k ≤ PLACES_LIMIT }
-    ensures { Adds page.old page.new (stay_text frame chain stand last.now) }
+    ensures { OnOk result (string_bytes text.new ≡ string_bytes text.old
+        ++ stay_text frame chain stand last.now) }
 {
     let stay = stay_of(stand, last);
     put_along(
+        text,
         frame,
         Ink::Standing,
-        b" ys",
+        " ys",
         chain,
-        b": stands behind ",
+        ": stands behind ",
         &stay,
-        page,
-    );
-    put_age(frame, chain, &stay, age_of(stand), page)
+    )?;
+    put_age(text, frame, chain, &stay, age_of(stand))
 }
 
 // The same by the jobs of its path, of which the last stands first.
-fn put_stay_behind(frame: Frame, chain: Name, stand: Stand, stops: &[Stop], page: &mut Page)
+fn put_stay_behind(
+    text: &mut String,
+    frame: Frame,
+    chain: Name,
+    stand: Stand,
+    stops: &[Stop],
+) -> Result<(), AllocError>
     requires { All (λ s. s.k ≤ PLACES_LIMIT) stops.now }
-    ensures { Adds page.old page.new (stay_behind frame chain stand stops.now) }
+    ensures { OnOk result (string_bytes text.new ≡ string_bytes text.old
+        ++ stay_behind frame chain stand stops.now) }
 {
     match stops.first() {
-        Some(last) => put_stay(frame, chain, stand, last, page),
-        None => {}
+        Some(last) => put_stay(text, frame, chain, stand, last),
+        None => Ok(()),
     }
 }
 
@@ -165,63 +179,55 @@ fn stops_then(
 // The way of what comes next, that of what stands longest, and how it stands.
 fn put_ways(
     alloc: Global,
+    text: &mut String,
     ground: &Ground<'_>,
     way: &Way<'_>,
     stand: Stand,
-    page: &mut Page,
 ) -> Result<(), AllocError>
-    ensures { OnOk result (Adds page.old page.new
-        (ways_text (ground_of ground.now) (way_of way.now) stand)) }
+    ensures { OnOk result (string_bytes text.new ≡ string_bytes text.old
+        ++ ways_text (ground_of ground.now) (way_of way.now) stand) }
 {
     let nexts = stops_then(alloc, ground, way, stand)?;
     let stops = stops_at(alloc, ground, way, stand.since)?;
-    put_stops(ground.frame, Ink::Next, way.name, &nexts, page);
-    put_stops(ground.frame, Ink::Standing, way.name, &stops, page);
-    put_stay_behind(ground.frame, way.name, stand, &stops, page);
-    Ok(())
+    put_stops(text, ground.frame, Ink::Next, way.name, &nexts)?;
+    put_stops(text, ground.frame, Ink::Standing, way.name, &stops)?;
+    put_stay_behind(text, ground.frame, way.name, stand, &stops)
 }
 
 // The same, where something stands.
-fn put_standing(
-    alloc: Global,
-    ground: &Ground<'_>,
-    way: &Way<'_>,
-    stand: Option<Stand>,
-    page: &mut Page,
-) -> Result<(), AllocError>
-    ensures { OnOk result (Adds page.old page.new
-        (ways_of (ground_of ground.now) (way_of way.now) stand)) }
-{
-    if let Some(stand) = stand {
-        put_ways(alloc, ground, way, stand, page)?;
-    }
-    Ok(())
-}
-
-// The ways alone.
 fn ways_of(
     alloc: Global,
     ground: &Ground<'_>,
     way: &Way<'_>,
     stand: Option<Stand>,
-) -> Result<Vec<u8>, AllocError>
-    ensures { IfOk result (λ ways. ways.items
+) -> Result<String, AllocError>
+    ensures { IfOk result (λ ways. string_bytes ways
         ≡ ways_of (ground_of ground.now) (way_of way.now) stand) }
 {
-    let mut page = Page::new(alloc);
-    put_standing(alloc, ground, way, stand, &mut page)?;
-    page.whole()
+    let mut ways = String::new(alloc);
+    if let Some(stand) = stand {
+        put_ways(alloc, &mut ways, ground, way, stand)?;
+    }
+    Ok(ways)
 }
 
 // The chain, the greatest age in the window, and the bound, below the rows.
-fn put_chain_line(ground: &Ground<'_>, way: &Way<'_>, age: Option<u64>, page: &mut Page)
-    ensures { Adds page.old page.new (chain_line (ground_of ground.now) (way_of way.now) age) }
+fn put_chain_line(
+    text: &mut String,
+    ground: &Ground<'_>,
+    way: &Way<'_>,
+    age: Option<u64>,
+) -> Result<(), AllocError>
+    ensures { OnOk result (string_bytes text.new ≡ string_bytes text.old
+        ++ chain_line (ground_of ground.now) (way_of way.now) age) }
 {
-    page.number(b"<text x=\"100\" y=\"", top_of(ground.shown.len()) + 95);
-    page.name(b"\">chain ", way.name);
-    put_told(b": age ", ground.frame, age, page);
-    put_told(b" of bound ", ground.frame, way.bound, page);
-    page.put(b"</text>\n")
+    let y = top_of(ground.shown.len()) + 95;
+    let name = way.name;
+    write!(text, "<text x=\"100\" y=\"{y}\">chain {name}: age ")?;
+    put_told(text, ground.frame, age)?;
+    text.push_str(" of bound ")?;
+    put_told(text, ground.frame, way.bound)?;
+    text.push_str("</text>\n")
 }
 
 // How old something gets, if there is something.
@@ -240,17 +246,17 @@ fn drawn_of(
     ground: &Ground<'_>,
     way: &Way<'_>,
     stand: Option<Stand>,
-) -> Result<Vec<u8>, AllocError>
-    ensures { IfOk result (λ text. text.items
+) -> Result<String, AllocError>
+    ensures { IfOk result (λ text. string_bytes text
         ≡ drawn_of (ground_of ground.now) (way_of way.now) stand) }
 {
     let ways = ways_of(alloc, ground, way, stand)?;
-    let mut page = Page::new(alloc);
-    page.put(STYLE.as_bytes());
-    page.put(&ways);
-    put_signs(way.writes, &ways, &mut page);
-    put_chain_line(ground, way, age_if(stand), &mut page);
-    page.whole()
+    let mut text = String::new(alloc);
+    text.push_str(STYLE)?;
+    text.push_str(ways.as_str())?;
+    put_signs(&mut text, way.writes, ways.as_str())?;
+    put_chain_line(&mut text, ground, way, age_if(stand))?;
+    Ok(text)
 }
 
 // Of the outputs that stand in a frame's window the one that gets oldest.
@@ -270,9 +276,9 @@ pub fn way_text(
     shown: &[usize],
     trace: &Trace,
     way: &Way<'_>,
-) -> Result<Vec<u8>, AllocError>
+) -> Result<String, AllocError>
     requires { length shown.now ≤ PLACES_LIMIT }
-    ensures { IfOk result (λ text. text.items
+    ensures { IfOk result (λ text. string_bytes text
         ≡ way_text frame set.now rows.now shown.now trace.now (way_of way.now)) }
 {
     let source = source_of(alloc, set, frame.until, trace, way.writes)?;

@@ -1,5 +1,5 @@
 //! `desk draw` with `--beside`.
-ghost use Rattle.std.specs.Prelude.{◌≡◌, ◌++◌, ◌≤◌, length, List, map, IfOk, MatchResult, Ok, Err};
+ghost use Rattle.std.specs.Prelude.{◌≡◌, ◌++◌, ◌≤◌, length, string_bytes, List, map, IfOk, MatchResult, Ok, Err};
 ghost use Rattle.task_sheet.specs.Sheet.{Task};
 ghost use Rattle.task_sheet.specs.declared.set.TheConstants.{TASK_LIMIT};
 ghost use Rattle.answering.specs.Chosen.{chain_of};
@@ -16,7 +16,7 @@ use crate::diff_lines::read_new;
 use crate::draw::{Looks, rows_in, settings_in, task_tones};
 use crate::simulate::{Run, Simulated, simulate_text};
 use crate::view::{Sets, view_of};
-use answering::{CommandRefusal, Status, print_bytes, print_stuck};
+use answering::{CommandRefusal, Status, print_made, print_stuck};
 use command_line::Options;
 use frames::{TaskRow, Toned, View};
 use judge::SettingRow;
@@ -224,10 +224,10 @@ fn picture_of_both(
     beside: &TwoRuns,
     was: &Run,
     is: &Run,
-) -> Result<Vec<u8>, AllocError>
+) -> Result<String, AllocError>
     requires was { IsOrder tasks.now (tasks_of_bounds was.now.bounds.items) }
     requires is { IsOrder beside.now.set (tasks_of_bounds is.now.bounds.items) }
-    ensures { IfOk result (λ text. text.items ≡ picture_of_both tasks.now beside.now.set
+    ensures { IfOk result (λ text. string_bytes text ≡ picture_of_both tasks.now beside.now.set
         beside.now.settings.items beside.now.view was.now is.now) }
 {
     let sets = Sets::both(tasks, &beside.set);
@@ -255,7 +255,7 @@ pub fn print_beside<W: Write + Drop>(
     match (&beside.was, &beside.is) {
         (Simulated::Infeasible(members), _) => print_stuck(alloc, tasks, *members, output),
         (_, Simulated::Infeasible(members)) => print_stuck(alloc, &beside.set, *members, output),
-        (Simulated::Ran(was), Simulated::Ran(is)) => print_bytes(
+        (Simulated::Ran(was), Simulated::Ran(is)) => print_made(
             picture_of_both(alloc, tasks, beside, was, is),
             Status::Done,
             output,

@@ -1,5 +1,5 @@
 //! `desk draw`.
-ghost use Rattle.std.specs.Prelude.{◌≡◌, ◌<◌, ◌≤◌, length, IfOk, All, MatchResult, Ok};
+ghost use Rattle.std.specs.Prelude.{◌≡◌, ◌<◌, ◌≤◌, length, string_bytes, IfOk, All, MatchResult, Ok};
 ghost use Rattle.judge.specs.Front.{settings_in};
 ghost use Rattle.task_sheet.specs.Orders.{IsOrder};
 ghost use Rattle.task_sheet.specs.declared.set.TheConstants.{TASK_LIMIT};
@@ -14,7 +14,7 @@ ghost use Rattle.two_input_commands.specs.Simulate.{IsInOrder, simulation_status
 
 use crate::simulate::{Run, Simulated, simulate_text};
 use crate::view::{Sets, all_names, is_unseen, view_of};
-use answering::{CommandRefusal, Status, print_bytes, print_stuck};
+use answering::{CommandRefusal, Status, print_made, print_stuck};
 use ceiling_kernel::Release;
 use ceilings::{LockTable, Tabled};
 use command_line::Options;
@@ -190,9 +190,9 @@ fn picture_of(
     settings: &[SettingRow],
     view: &View,
     run: &Run,
-) -> Result<Vec<u8>, AllocError>
+) -> Result<String, AllocError>
     requires { IsOrder set.now (tasks_of_bounds run.now.bounds.items) }
-    ensures { IfOk result (λ text. text.items ≡ picture_of set.now settings.now view.now run.now) }
+    ensures { IfOk result (λ text. string_bytes text ≡ picture_of set.now settings.now view.now run.now) }
 {
     let rows = rows_in_view(alloc, set, settings, view, run)?;
     draw(alloc, &rows, view, run.until, &run.releases, &run.trace)
@@ -251,7 +251,7 @@ pub fn print_drawing<W: Write + Drop>(
         (simulation_status drawing.now.answer) s) W.contents output.old output.new result }
 {
     match &drawing.answer {
-        Simulated::Ran(run) => print_bytes(
+        Simulated::Ran(run) => print_made(
             picture_of(alloc, tasks, &drawing.settings, &drawing.view, run),
             Status::Done,
             output,

@@ -145,7 +145,7 @@ fn rows_drawn(
     let shown = shown_of(alloc, &view.tasks, &run.releases, rows)?;
     let frame = frame_of(rows, view, run.until);
     let over = way_text(alloc, frame, set, rows, &shown, &run.trace, way)?;
-    laid_over(alloc, &document, &over)
+    laid_over(alloc, document.as_bytes(), over.as_bytes())
 }
 
 // The picture of a run in an order of a set, with the way of a chain's datum.

@@ -1,4 +1,4 @@
-use Rattle.std.proofs.Common.{◌≡◌, ◌∙◌, List, Option, IfOk, ap, subst, ℕ}
+use Rattle.std.proofs.Common.{◌≡◌, ◌∙◌, List, Option, IfOk, ap, string_bytes, subst, ℕ}
 use Rattle.chain_runs.specs.ChainOutputs.{outputs_of}
 use Rattle.chain_runs.specs.declared.outputs.ChainOutput.{ChainOutput}
 use Rattle.frames.specs.Frame.{Frame}
@@ -15,7 +15,7 @@ returns c =
     ∙ ap (λ (f : Frame). outputs_of way.writes c.args.set.now f.until c.args.trace.now) c.frame.view_is in
     let outputs = c.deref.ensures.value ∙ c.in_ok-outputs.ensures
     ∙ ap (λ (g : List ℕ → List ChainOutput). g way.tasks.now) source in
-    subst (λ (s : Option Stand). IfOk c.drawn_of.result (λ text. text.items ≡ drawn_of (record {
+    subst (λ (s : Option Stand). IfOk c.drawn_of.result (λ text. string_bytes text ≡ drawn_of (record {
       frame = f;
       set = c.args.set.now;
       rows = c.args.rows.now;
@@ -23,7 +23,7 @@ returns c =
       outputs = outputs_of way.writes c.args.set.now f.until c.args.trace.now;
     }) (way_of way) s))
     (c.oldest_in-stand.ensures ∙ ap (λ (os : List ChainOutput). oldest f.from f.to os) outputs)
-    (subst (λ (g : List ℕ → List ChainOutput). IfOk c.drawn_of.result (λ text. text.items ≡ drawn_of (record {
+    (subst (λ (g : List ℕ → List ChainOutput). IfOk c.drawn_of.result (λ text. string_bytes text ≡ drawn_of (record {
       frame = f;
       set = c.args.set.now;
       rows = c.args.rows.now;

@@ -1,4 +1,4 @@
-use Rattle.std.proofs.Common.{◌≡◌, ◌∙◌, ◌++◌, List, map, ℕ, IfOk, ap, ap₂, subst}
+use Rattle.std.proofs.Common.{◌≡◌, ◌∙◌, ◌++◌, List, map, ℕ, IfOk, ap, ap₂, string_bytes, subst}
 use Rattle.task_sheet.specs.Sheet.{Task}
 use Rattle.frames.specs.declared.rows.TaskRow.{TaskRow}
 use Rattle.picture.specs.Beside.{Run, document_beside}
@@ -19,5 +19,5 @@ returns c =
     ∙ ap (λ (rs : List TaskRow). drawn_run rs c.args.was.now) (c.deref-4.ensures.value ∙ olds) in
     let new = c.drawn_run-new.ensures.run
     ∙ ap (λ (rs : List TaskRow). drawn_run rs c.args.is.now) (c.deref-5.ensures.value ∙ news) in
-    subst (λ (text : List ℕ). IfOk c.draw_beside.result (λ t. t.items ≡ text))
+    subst (λ (text : List ℕ). IfOk c.draw_beside.result (λ t. string_bytes t ≡ text))
     (ap₂ (λ (w i : Run). document_beside w i b.view) old new) c.draw_beside.ensures

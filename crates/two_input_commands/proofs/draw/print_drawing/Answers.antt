@@ -1,4 +1,4 @@
-use Rattle.std.proofs.Common.{◌≡◌, List, IfOk, subst}
+use Rattle.std.proofs.Common.{◌≡◌, List, IfOk, string_bytes, subst}
 use Rattle.judge.specs.declared.rows.SettingRow.{SettingRow}
 use Rattle.two_input_commands.specs.Draw.{picture_of}
 use Rattle.answering.specs.declared.status.Status.TheVariants as status
@@ -8,8 +8,8 @@ use Rattle.two_input_commands.proofs.draw.print_drawing.Goals as goal
 pub returns-in-Ran : goal.returns-in-Ran
 returns-in-Ran g c =
     let drawing = c.args.drawing.now in
-    rw c.in-Ran.is (made_printed c.picture_of.result (λ t. t.items) status.Done
+    rw c.in-Ran.is (made_printed c.picture_of.result string_bytes status.Done
     (picture_of c.args.tasks.now drawing.settings.items drawing.view c.in-Ran.run')
-    (subst (λ (rows : List SettingRow). IfOk c.picture_of.result (λ t. t.items
+    (subst (λ (rows : List SettingRow). IfOk c.picture_of.result (λ t. string_bytes t
     ≡ picture_of c.args.tasks.now rows drawing.view c.in-Ran.run'))
-    c.deref.ensures.value c.picture_of.ensures) c.print_bytes.ensures)
+    c.deref.ensures.value c.picture_of.ensures) c.print_made.ensures)

@@ -13,10 +13,10 @@ returns c =
     let shown = c.deref-4.ensures.value ∙ (c.in_ok-shown.ensures.shown
     ∙ ap₂ (λ (names : List (List ℕ)) (rs : List Release). shown_of names rs rows)
     c.deref-2.ensures.value c.deref-3.ensures.value) in
-    let over = c.deref-6.ensures.value ∙ (c.in_ok-over.ensures
+    let over = c.as_bytes-2.ensures.value ∙ (c.in_ok-over.ensures
     ∙ ap₂ (λ (f : Frame) (ranks : List ℕ). way_text f c.args.set.now rows ranks run.trace
     (way_of c.args.way.now)) c.frame_of-frame.ensures shown) in
-    let drawn = c.deref-5.ensures.value ∙ (c.in_ok-document.ensures
+    let drawn = c.as_bytes.ensures.value ∙ (c.in_ok-document.ensures
     ∙ ap (λ (rs : List Release). document rows c.args.view.now run.until rs run.trace)
     c.deref.ensures.value) in
     subst (λ (words : List ℕ). IfOk c.laid_over.result (λ text. text.items ≡ words))
