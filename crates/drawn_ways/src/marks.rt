@@ -6,7 +6,7 @@ ghost use Rattle.frames.specs.declared.places.TheConstants.{PLACES_LIMIT};
 ghost use Rattle.drawn_ways.specs.WayMarks.{along_text, class_of, dot_text, job_text, line_y, link_text, link_to_text, path_head, stop_text, stops_text, turn_text, wait_of};
 
 use crate::stops::Stop;
-use frames::{Frame, put_times, sees, top_of, x_of};
+use frames::{Frame, sees, top_of, x_of};
 use std::alloc::AllocError;
 use task_sheet::Name;
 
@@ -46,7 +46,7 @@ fn is_in(frame: Frame, time: u64) -> bool
 }
 
 // A path, up to where it begins.
-fn put_head(text: &mut String, ink: Ink, class: &str, x: u64, k: usize) -> Result<(), AllocError>
+fn put_head(ink: Ink, class: &str, x: u64, k: usize, text: &mut String) -> Result<(), AllocError>
     requires { k ≤ PLACES_LIMIT }
     ensures { OnOk result (string_bytes text.new ≡ string_bytes text.old
         ++ path_head ink class.now x k) }
@@ -58,13 +58,13 @@ fn put_head(text: &mut String, ink: Ink, class: &str, x: u64, k: usize) -> Resul
 
 // A line along a row, where it is seen, and what it tells of a chain.
 pub(crate) fn put_along(
-    text: &mut String,
     frame: Frame,
     ink: Ink,
     class: &str,
     chain: Name,
     how: &str,
     line: &Stop,
+    text: &mut String,
 ) -> Result<(), AllocError>
     requires { line.now.k ≤ PLACES_LIMIT }
     ensures { OnOk result (string_bytes text.new ≡ string_bytes text.old
@@ -73,15 +73,22 @@ pub(crate) fn put_along(
     if !sees(frame, line.start, line.stop) {
         return Ok(());
     }
-    let right = x_of(frame, line.stop);
-    let name = line.name;
-    put_head(text, ink, class, x_of(frame, line.start), line.k)?;
-    write!(text, "H{right}\"><title>{chain}{how}{name} ")?;
-    put_times(text, line.start, line.stop)
+    let Stop {
+        name,
+        start,
+        stop,
+        ..
+    } = *line;
+    let right = x_of(frame, stop);
+    put_head(ink, class, x_of(frame, start), line.k, text)?;
+    write!(
+        text,
+        "H{right}\"><title>{chain}{how}{name} {start} to {stop} us</title></path>\n"
+    )
 }
 
 // A dot, where a job reads in the window.
-fn put_dot(text: &mut String, frame: Frame, ink: Ink, stop: &Stop) -> Result<(), AllocError>
+fn put_dot(frame: Frame, ink: Ink, stop: &Stop, text: &mut String) -> Result<(), AllocError>
     requires { stop.now.k ≤ PLACES_LIMIT }
     ensures { OnOk result (string_bytes text.new ≡ string_bytes text.old
         ++ dot_text frame ink stop.now) }
@@ -89,33 +96,33 @@ fn put_dot(text: &mut String, frame: Frame, ink: Ink, stop: &Stop) -> Result<(),
     if !is_in(frame, stop.start) {
         return Ok(());
     }
-    put_head(text, ink, " yd", x_of(frame, stop.start), stop.k)?;
+    put_head(ink, " yd", x_of(frame, stop.start), stop.k, text)?;
     text.push_str("h1\"/>\n")
 }
 
 // The same, and a line.
 fn put_job(
-    text: &mut String,
     frame: Frame,
     ink: Ink,
     chain: Name,
     stop: &Stop,
+    text: &mut String,
 ) -> Result<(), AllocError>
     requires { stop.now.k ≤ PLACES_LIMIT }
     ensures { OnOk result (string_bytes text.new ≡ string_bytes text.old
         ++ job_text frame ink chain stop.now) }
 {
-    put_dot(text, frame, ink, stop)?;
-    put_along(text, frame, ink, "", chain, ": ", stop)
+    put_dot(frame, ink, stop, text)?;
+    put_along(frame, ink, "", chain, ": ", stop, text)
 }
 
 // A line to the row of the next job, where a job writes in the window.
 fn put_turn(
-    text: &mut String,
     frame: Frame,
     ink: Ink,
     stop: &Stop,
     next: &Stop,
+    text: &mut String,
 ) -> Result<(), AllocError>
     requires place { stop.now.k ≤ PLACES_LIMIT }
     requires next { next.now.k ≤ PLACES_LIMIT }
@@ -126,7 +133,7 @@ fn put_turn(
         return Ok(());
     }
     let y = line_y(ink, next.k);
-    put_head(text, ink, "", x_of(frame, stop.stop), stop.k)?;
+    put_head(ink, "", x_of(frame, stop.stop), stop.k, text)?;
     writeln!(text, "V{y}\"/>")
 }
 
@@ -144,12 +151,12 @@ fn wait_of(stop: &Stop, next: &Stop) -> Stop
 
 // How it comes to the next one.
 fn put_link(
-    text: &mut String,
     frame: Frame,
     ink: Ink,
     chain: Name,
     stop: &Stop,
     next: &Stop,
+    text: &mut String,
 ) -> Result<(), AllocError>
     requires place { stop.now.k ≤ PLACES_LIMIT }
     requires next { next.now.k ≤ PLACES_LIMIT }
@@ -157,18 +164,18 @@ fn put_link(
         ++ link_text frame ink chain stop.now next.now) }
 {
     let wait = wait_of(stop, next);
-    put_turn(text, frame, ink, stop, next)?;
-    put_along(text, frame, ink, " yw", chain, ": waits for ", &wait)
+    put_turn(frame, ink, stop, next, text)?;
+    put_along(frame, ink, " yw", chain, ": waits for ", &wait, text)
 }
 
 // How what the last of the jobs before one wrote comes to that, if there are some.
 fn put_link_to(
-    text: &mut String,
     frame: Frame,
     ink: Ink,
     chain: Name,
     stop: &Stop,
     before: &[Stop],
+    text: &mut String,
 ) -> Result<(), AllocError>
     requires place { stop.now.k ≤ PLACES_LIMIT }
     requires before { All (λ s. s.k ≤ PLACES_LIMIT) before.now }
@@ -176,36 +183,36 @@ fn put_link_to(
         ++ link_to_text frame ink chain stop.now before.now) }
 {
     match before.first() {
-        Some(last) => put_link(text, frame, ink, chain, last, stop),
+        Some(last) => put_link(frame, ink, chain, last, stop, text),
         None => Ok(()),
     }
 }
 
 // The same, and the job.
 fn put_stop(
-    text: &mut String,
     frame: Frame,
     ink: Ink,
     chain: Name,
     stop: &Stop,
     before: &[Stop],
+    text: &mut String,
 ) -> Result<(), AllocError>
     requires place { stop.now.k ≤ PLACES_LIMIT }
     requires before { All (λ s. s.k ≤ PLACES_LIMIT) before.now }
     ensures { OnOk result (string_bytes text.new ≡ string_bytes text.old
         ++ stop_text frame ink chain stop.now before.now) }
 {
-    put_link_to(text, frame, ink, chain, stop, before)?;
-    put_job(text, frame, ink, chain, stop)
+    put_link_to(frame, ink, chain, stop, before, text)?;
+    put_job(frame, ink, chain, stop, text)
 }
 
 // Puts a way, of which the last job stands first.
 pub(crate) fn put_stops(
-    text: &mut String,
     frame: Frame,
     ink: Ink,
     chain: Name,
     stops: &[Stop],
+    text: &mut String,
 ) -> Result<(), AllocError>
     requires { All (λ s. s.k ≤ PLACES_LIMIT) stops.now }
     ensures { OnOk result (string_bytes text.new ≡ string_bytes text.old
@@ -213,7 +220,7 @@ pub(crate) fn put_stops(
 {
     let mut rest = stops;
     while let Some((stop, before)) = rest.split_first() {
-        put_stop(text, frame, ink, chain, stop, before)?;
+        put_stop(frame, ink, chain, stop, before, text)?;
         rest = before;
     }
     Ok(())

@@ -65,26 +65,26 @@ fn writes_sign(writes: Writes) -> &'static str
 }
 
 // Puts the signs that some ways have.
-pub(crate) fn put_signs(text: &mut String, writes: Writes, ways: &str) -> Result<(), AllocError>
+pub(crate) fn put_signs(writes: Writes, ways: &str, text: &mut String) -> Result<(), AllocError>
     ensures { OnOk result (string_bytes text.new ≡ string_bytes text.old
         ++ signs_text writes ways.now) }
 {
     let (reads, to) = (reads_sign(writes), writes_sign(writes));
     put_sign_of(
-        text,
         ways,
         "<path class=\"ya yd\"",
         "<path class=\"yb yd\"",
         reads,
-    )?;
-    put_sign_of(text, ways, "<path class=\"ya\"", "<path class=\"yb\"", to)?;
-    put_sign_of(
         text,
+    )?;
+    put_sign_of(ways, "<path class=\"ya\"", "<path class=\"yb\"", to, text)?;
+    put_sign_of(
         ways,
         "<path class=\"ya yw\"",
         "<path class=\"yb yw\"",
         WAITS,
+        text,
     )?;
-    put_sign(text, ways, "<path class=\"ya ys\"", STANDS)?;
-    put_sign(text, ways, "<path class=\"yb", NEXT)
+    put_sign(ways, "<path class=\"ya ys\"", STANDS, text)?;
+    put_sign(ways, "<path class=\"yb", NEXT, text)
 }

@@ -1,5 +1,5 @@
 //! What is drawn of a chain in the picture of a run.
-ghost use Rattle.std.specs.Prelude.{◌≡◌, ◌++◌, ◌≤◌, All, IfOk, OnOk, length, option_map, string_bytes};
+ghost use Rattle.std.specs.Prelude.{◌≡◌, ◌++◌, ◌≤◌, All, IfOk, OnOk, Some, length, option_map, string_bytes};
 ghost use Rattle.frames.specs.declared.places.TheConstants.{PLACES_LIMIT};
 ghost use Rattle.drawn_ways.specs.Stands.{age_of, oldest};
 ghost use Rattle.drawn_ways.specs.WayTexts.{age_text, age_x, chain_line, drawn_of, ground_of, half_room, laid_over, later, stay_behind, stay_of, stay_text, stops_at, stops_then, told_time, way_of, way_text, ways_of, ways_text};
@@ -15,8 +15,9 @@ use crate::style::STYLE;
 use ceiling_kernel::Trace;
 use chain_runs::ChainOutput;
 use chains::Writes;
-use frames::{Frame, TaskRow, end_of, in_millis, put_time, put_unit, sees, start_of, top_of, x_of};
+use frames::{Frame, ShownTime, TaskRow, end_of, in_millis, sees, start_of, top_of, unit_of, x_of};
 use std::alloc::{AllocError, Global};
+use std::fmt;
 use task_sheet::{Name, TaskSet};
 
 /// A chain: its name, when its tasks write, these by index, the first one first, and its bound in microseconds, if it has one.
@@ -28,16 +29,26 @@ pub struct Way<'a> {
     pub bound: Option<u64>,
 }
 
-// Puts a time in the picture's unit, or `-` where there is none.
-fn put_told(text: &mut String, frame: Frame, time: Option<u64>) -> Result<(), AllocError>
-    ensures { OnOk result (string_bytes text.new ≡ string_bytes text.old ++ told_time frame time) }
-{
-    let Some(time) = time else {
-        return text.push_str("-");
-    };
-    let millis = in_millis(frame);
-    put_time(text, millis, time)?;
-    put_unit(text, millis)
+// A time in the picture's unit, shown as `-` where there is none.
+#[derive(Clone, Copy)]
+struct Told {
+    millis: bool,
+    time: Option<u64>,
+}
+
+impl fmt::Display for Told {
+    ghost output = { λ told. Some (told_time told.millis told.time) };
+
+    fn fmt<W: fmt::Write>(&self, f: &mut fmt::Formatter<W>) -> fmt::Result {
+        let (millis, unit) = (self.millis, unit_of(self.millis));
+        match self.time {
+            None => f.write_str("-"),
+            Some(micros) => {
+                let time = ShownTime { millis, micros };
+                write!(f, "{time}{unit}")
+            }
+        }
+    }
 }
 
 // Half of the room that a chain's name and an age take.
@@ -60,11 +71,11 @@ fn age_x(frame: Frame, chain: Name, line: &Stop) -> u64
 
 // The chain, and how old it gets, above a line that is seen.
 fn put_age(
-    text: &mut String,
     frame: Frame,
     chain: Name,
     line: &Stop,
     age: u64,
+    text: &mut String,
 ) -> Result<(), AllocError>
     requires { line.now.k ≤ PLACES_LIMIT }
     ensures { OnOk result (string_bytes text.new ≡ string_bytes text.old
@@ -73,11 +84,15 @@ fn put_age(
     if !sees(frame, line.start, line.stop) {
         return Ok(());
     }
-    let x = age_x(frame, chain, line);
-    let y = top_of(line.k) + 140;
-    write!(text, "<text class=\"yt\" x=\"{x}\" y=\"{y}\">{chain} ")?;
-    put_told(text, frame, Some(age))?;
-    text.push_str("</text>\n")
+    let (x, y) = (age_x(frame, chain, line), top_of(line.k) + 140);
+    let age = Told {
+        millis: in_millis(frame),
+        time: Some(age),
+    };
+    write!(
+        text,
+        "<text class=\"yt\" x=\"{x}\" y=\"{y}\">{chain} {age}</text>\n"
+    )
 }
 
 // From when to when it stands, in the row of the last task's job.
@@ -94,11 +109,11 @@ fn stay_of(stand: Stand, last: &Stop) -> Stop
 
 // The same, drawn.
 fn put_stay(
-    text: &mut String,
     frame: Frame,
     chain: Name,
     stand: Stand,
     last: &Stop,
+    text: &mut String,
 ) -> Result<(), AllocError>
     requires { last.now.k ≤ PLACES_LIMIT }
     ensures { OnOk result (string_bytes text.new ≡ string_bytes text.old
@@ -106,31 +121,31 @@ fn put_stay(
 {
     let stay = stay_of(stand, last);
     put_along(
-        text,
         frame,
         Ink::Standing,
         " ys",
         chain,
         ": stands behind ",
         &stay,
+        text,
     )?;
-    put_age(text, frame, chain, &stay, age_of(stand))
+    put_age(frame, chain, &stay, age_of(stand), text)
 }
 
 // The same by the jobs of its path, of which the last stands first.
 fn put_stay_behind(
-    text: &mut String,
     frame: Frame,
     chain: Name,
     stand: Stand,
     stops: &[Stop],
+    text: &mut String,
 ) -> Result<(), AllocError>
     requires { All (λ s. s.k ≤ PLACES_LIMIT) stops.now }
     ensures { OnOk result (string_bytes text.new ≡ string_bytes text.old
         ++ stay_behind frame chain stand stops.now) }
 {
     match stops.first() {
-        Some(last) => put_stay(text, frame, chain, stand, last),
+        Some(last) => put_stay(frame, chain, stand, last, text),
         None => Ok(()),
     }
 }
@@ -179,19 +194,19 @@ fn stops_then(
 // The way of what comes next, that of what stands longest, and how it stands.
 fn put_ways(
     alloc: Global,
-    text: &mut String,
     ground: &Ground<'_>,
     way: &Way<'_>,
     stand: Stand,
+    text: &mut String,
 ) -> Result<(), AllocError>
     ensures { OnOk result (string_bytes text.new ≡ string_bytes text.old
         ++ ways_text (ground_of ground.now) (way_of way.now) stand) }
 {
     let nexts = stops_then(alloc, ground, way, stand)?;
     let stops = stops_at(alloc, ground, way, stand.since)?;
-    put_stops(text, ground.frame, Ink::Next, way.name, &nexts)?;
-    put_stops(text, ground.frame, Ink::Standing, way.name, &stops)?;
-    put_stay_behind(text, ground.frame, way.name, stand, &stops)
+    put_stops(ground.frame, Ink::Next, way.name, &nexts, text)?;
+    put_stops(ground.frame, Ink::Standing, way.name, &stops, text)?;
+    put_stay_behind(ground.frame, way.name, stand, &stops, text)
 }
 
 // The same, where something stands.
@@ -206,28 +221,29 @@ fn ways_of(
 {
     let mut ways = String::new(alloc);
     if let Some(stand) = stand {
-        put_ways(alloc, &mut ways, ground, way, stand)?;
+        put_ways(alloc, ground, way, stand, &mut ways)?;
     }
     Ok(ways)
 }
 
 // The chain, the greatest age in the window, and the bound, below the rows.
 fn put_chain_line(
-    text: &mut String,
     ground: &Ground<'_>,
     way: &Way<'_>,
     age: Option<u64>,
+    text: &mut String,
 ) -> Result<(), AllocError>
     ensures { OnOk result (string_bytes text.new ≡ string_bytes text.old
         ++ chain_line (ground_of ground.now) (way_of way.now) age) }
 {
     let y = top_of(ground.shown.len()) + 95;
-    let name = way.name;
-    write!(text, "<text x=\"100\" y=\"{y}\">chain {name}: age ")?;
-    put_told(text, ground.frame, age)?;
-    text.push_str(" of bound ")?;
-    put_told(text, ground.frame, way.bound)?;
-    text.push_str("</text>\n")
+    let (name, time) = (way.name, way.bound);
+    let millis = in_millis(ground.frame);
+    let (age, bound) = (Told { millis, time: age }, Told { millis, time });
+    write!(
+        text,
+        "<text x=\"100\" y=\"{y}\">chain {name}: age {age} of bound {bound}</text>\n"
+    )
 }
 
 // How old something gets, if there is something.
@@ -254,8 +270,8 @@ fn drawn_of(
     let mut text = String::new(alloc);
     text.push_str(STYLE)?;
     text.push_str(ways.as_str())?;
-    put_signs(&mut text, way.writes, ways.as_str())?;
-    put_chain_line(&mut text, ground, way, age_if(stand))?;
+    put_signs(way.writes, ways.as_str(), &mut text)?;
+    put_chain_line(ground, way, age_if(stand), &mut text)?;
     Ok(text)
 }
 

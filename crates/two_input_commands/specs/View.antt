@@ -1,5 +1,5 @@
 -- The view that the words of `desk draw` choose.
-use Rattle.std.specs.Prelude.{◌≡◌, ⊤, ℕ, Bool, true, false, ◌==◌, List, [], ◌∷◌, ◌++◌, bytes_eq, codes, map, Option, Some, None, Result, Ok, Err, option_map}
+use Rattle.std.specs.Prelude.{◌≡◌, ⊤, ℕ, Bool, true, false, ◌==◌, List, [], ◌∷◌, ◌++◌, bytes_eq, codes, map, Option, Some, None, Result, Ok, Err, option_map, string_bytes}
 use Rattle.std.specs.List.{find, slice_split}
 use Rattle.std.specs.Option.{unwrap_or}
 use Rattle.task_sheet.specs.Sheet.{Task}
@@ -106,7 +106,7 @@ pub record IsViewOf (U : List Task) (options : Options) (v : View) : Type 0 wher
   pub to : v.to ≡ options.to
   pub width : v.width ≡ width_said options.width options.print
   pub paper : v.paper ≡ options.print
-  pub title : v.title.items ≡ title_word options
+  pub title : string_bytes v.title ≡ title_word options
   pub rows : AsksRows U (rows_word options) (Ok v.tasks.items)
 
 -- nothing of what came of a set and a list lies in the window of a view

@@ -1,5 +1,5 @@
 -- What `desk draw` with `--chain` answers and prints: the picture of a run, and in it how a datum goes along a chain.
-use Rattle.std.specs.Prelude.{◌≡◌, ℕ, ◌==◌, nat_lt, if◌then◌else◌, List, [], ◌∷◌, ◌++◌, map, Option, Some, None, Result, Ok, Err, length, slice_get}
+use Rattle.std.specs.Prelude.{◌≡◌, ℕ, ◌==◌, nat_lt, if◌then◌else◌, List, [], ◌∷◌, ◌++◌, map, Option, Some, None, Result, Ok, Err, length, slice_get, string_bytes}
 use Rattle.std.specs.Option.{option_map}
 use Rattle.task_sheet.specs.Sheet.{Task}
 use Rattle.task_sheet.specs.Indexes.{indexes_of, listed_below}
@@ -51,7 +51,7 @@ pub record IsViewWith (U : List Task) (c : ChainData) (v w : View) : Type 0 wher
   pub to : w.to ≡ v.to
   pub width : w.width ≡ v.width
   pub paper : w.paper ≡ v.paper
-  pub title : w.title.items ≡ v.title.items
+  pub title : string_bytes w.title ≡ string_bytes v.title
   pub rows : w.tasks.items ≡ rows_with U c v.tasks.items
 
 -- ---- the picture

@@ -1,5 +1,5 @@
 //! The view that the words of `desk draw` choose.
-ghost use Rattle.std.specs.Prelude.{◌≡◌, ◌++◌, [], Ok, Err, Some, false, IfOk, option_map, MatchResult};
+ghost use Rattle.std.specs.Prelude.{◌≡◌, ◌++◌, [], Ok, Err, Some, false, IfOk, option_map, string_bytes, MatchResult};
 ghost use Rattle.std.specs.Option.{unwrap_or};
 ghost use Rattle.std.specs.Prelude.{is_some};
 ghost use Rattle.ceiling_kernel.specs.Releases.{task_named};
@@ -147,12 +147,13 @@ fn rows_of(alloc: Global, sets: Sets<'_>, word: Option<&str>) -> Result<Vec<Name
 }
 
 // The title, where there is one.
-fn title_of(alloc: Global, word: Option<&str>) -> Result<Vec<u8>, AllocError>
-    ensures { IfOk result (λ title. title.items ≡ unwrap_or (option_map (λ w. w.now) word.entry) []) }
+fn title_of(alloc: Global, word: Option<&str>) -> Result<String, AllocError>
+    ensures { IfOk result (λ title. string_bytes title
+        ≡ unwrap_or (option_map (λ w. w.now) word.entry) []) }
 {
-    let mut title = Vec::new(alloc);
+    let mut title = String::new(alloc);
     if let Some(word) = word {
-        title.extend_from_slice(word.as_bytes())?;
+        title.push_str(word)?;
     }
     Ok(title)
 }
