@@ -25,13 +25,17 @@ path_head ink class x k =
     concat (codes "<path class=\"" ∷ class_of ink ∷ class ∷ codes "\" d=\"M" ∷ decimal x ∷ codes " "
     ∷ decimal (line_y ink k) ∷ [])
 
+-- its end: a line to the right, and what it tells of a chain
+abbrev pub path_end : (right : ℕ) → (chain how : List ℕ) → Stop → List ℕ
+path_end right chain how s =
+    concat (codes "H" ∷ decimal right ∷ codes "\"><title>" ∷ chain ∷ how ∷ s.name ∷ codes " "
+    ∷ times_end s.start s.stop ∷ [])
+
 -- a line along a row, where it is seen, and what it tells of a chain
 abbrev pub along_text : Frame → Ink → (class : List ℕ) → (chain how : List ℕ) → Stop → List ℕ
 along_text f ink class chain how s =
     if sees f s.start s.stop
-    then path_head ink class (x_of f s.start) s.k
-    ++ concat (codes "H" ∷ decimal (x_of f s.stop) ∷ codes "\"><title>" ∷ chain ∷ how ∷ s.name
-    ∷ codes " " ∷ times_end s.start s.stop ∷ [])
+    then path_head ink class (x_of f s.start) s.k ++ path_end (x_of f s.stop) chain how s
     else []
 
 -- ---- a job

@@ -3,7 +3,7 @@ ghost use Rattle.std.specs.Prelude.{◌≡◌, ◌++◌, ◌≤◌, All, OnOk, s
 ghost use Rattle.frames.specs.Frame.{is_in};
 ghost use Rattle.frames.specs.declared.frame.TheConstants.{RIGHTMOST};
 ghost use Rattle.frames.specs.declared.places.TheConstants.{PLACES_LIMIT};
-ghost use Rattle.drawn_ways.specs.WayMarks.{along_text, class_of, dot_text, job_text, line_y, link_text, link_to_text, path_head, stop_text, stops_text, turn_text, wait_of};
+ghost use Rattle.drawn_ways.specs.WayMarks.{along_text, class_of, dot_text, job_text, line_y, link_text, link_to_text, path_end, path_head, stop_text, stops_text, turn_text};
 
 use crate::stops::Stop;
 use frames::{Frame, sees, top_of, x_of};
@@ -56,6 +56,29 @@ fn put_head(ink: Ink, class: &str, x: u64, k: usize, text: &mut String) -> Resul
     write!(text, "<path class=\"{way}{class}\" d=\"M{x} {y}")
 }
 
+// Its end: a line to the right, and what it tells of a chain.
+fn put_end(
+    right: u64,
+    chain: Name,
+    how: &str,
+    line: &Stop,
+    text: &mut String,
+) -> Result<(), AllocError>
+    ensures { OnOk result (string_bytes text.new ≡ string_bytes text.old
+        ++ path_end right chain how.now line.now) }
+{
+    let Stop {
+        name,
+        start,
+        stop,
+        ..
+    } = *line;
+    write!(
+        text,
+        "H{right}\"><title>{chain}{how}{name} {start} to {stop} us</title></path>\n"
+    )
+}
+
 // A line along a row, where it is seen, and what it tells of a chain.
 pub(crate) fn put_along(
     frame: Frame,
@@ -73,18 +96,8 @@ pub(crate) fn put_along(
     if !sees(frame, line.start, line.stop) {
         return Ok(());
     }
-    let Stop {
-        name,
-        start,
-        stop,
-        ..
-    } = *line;
-    let right = x_of(frame, stop);
-    put_head(ink, class, x_of(frame, start), line.k, text)?;
-    write!(
-        text,
-        "H{right}\"><title>{chain}{how}{name} {start} to {stop} us</title></path>\n"
-    )
+    put_head(ink, class, x_of(frame, line.start), line.k, text)?;
+    put_end(x_of(frame, line.stop), chain, how, line, text)
 }
 
 // A dot, where a job reads in the window.
@@ -137,19 +150,7 @@ fn put_turn(
     writeln!(text, "V{y}\"/>")
 }
 
-// What a job wrote, until the next one reads.
-fn wait_of(stop: &Stop, next: &Stop) -> Stop
-    ensures { result ≡ wait_of stop.now next.now }
-{
-    Stop {
-        name: next.name,
-        k: next.k,
-        start: stop.stop,
-        stop: next.start,
-    }
-}
-
-// How it comes to the next one.
+// How what a job wrote comes to the next one: what waits until that reads.
 fn put_link(
     frame: Frame,
     ink: Ink,
@@ -163,7 +164,12 @@ fn put_link(
     ensures { OnOk result (string_bytes text.new ≡ string_bytes text.old
         ++ link_text frame ink chain stop.now next.now) }
 {
-    let wait = wait_of(stop, next);
+    let wait = Stop {
+        name: next.name,
+        k: next.k,
+        start: stop.stop,
+        stop: next.start,
+    };
     put_turn(frame, ink, stop, next, text)?;
     put_along(frame, ink, " yw", chain, ": waits for ", &wait, text)
 }

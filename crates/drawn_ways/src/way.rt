@@ -2,7 +2,7 @@
 ghost use Rattle.std.specs.Prelude.{◌≡◌, ◌++◌, ◌≤◌, All, IfOk, OnOk, Some, length, option_map, string_bytes};
 ghost use Rattle.frames.specs.declared.places.TheConstants.{PLACES_LIMIT};
 ghost use Rattle.drawn_ways.specs.Stands.{age_of, oldest};
-ghost use Rattle.drawn_ways.specs.WayTexts.{age_text, age_x, chain_line, drawn_of, ground_of, half_room, laid_over, later, stay_behind, stay_of, stay_text, stops_at, stops_then, told_time, way_of, way_text, ways_of, ways_text};
+ghost use Rattle.drawn_ways.specs.WayTexts.{age_text, age_x, chain_line, drawn_of, ground_of, half_room, laid_over, later, stay_behind, stay_text, stops_at, stops_then, told_time, way_of, way_text, ways_of, ways_text};
 
 use crate::ground::Ground;
 use crate::legs::{Leg, path_at};
@@ -96,18 +96,6 @@ fn put_age(
 }
 
 // From when to when it stands, in the row of the last task's job.
-fn stay_of(stand: Stand, last: &Stop) -> Stop
-    ensures { result ≡ stay_of stand last.now }
-{
-    Stop {
-        name: last.name,
-        k: last.k,
-        start: stand.since,
-        stop: stand.until,
-    }
-}
-
-// The same, drawn.
 fn put_stay(
     frame: Frame,
     chain: Name,
@@ -119,7 +107,12 @@ fn put_stay(
     ensures { OnOk result (string_bytes text.new ≡ string_bytes text.old
         ++ stay_text frame chain stand last.now) }
 {
-    let stay = stay_of(stand, last);
+    let stay = Stop {
+        name: last.name,
+        k: last.k,
+        start: stand.since,
+        stop: stand.until,
+    };
     put_along(
         frame,
         Ink::Standing,
