@@ -1,6 +1,5 @@
 pub mod Asked
 pub mod Chosen
-pub mod LimitLines
 pub mod OutcomeLines
 pub mod OrderParts
 pub mod Outcomes

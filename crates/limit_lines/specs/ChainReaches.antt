@@ -4,13 +4,14 @@ use Rattle.std.specs.Fmt.{decimal}
 use Rattle.task_sheet.specs.Sheet.{Task, task_at}
 use Rattle.lines.specs.Naming.{name_at}
 use Rattle.task_lines.specs.declared.owner.Owner.{Owner}
+use Rattle.assignment.specs.Places.{PlaceData}
 use Rattle.chains.specs.Parts.{bound_in}
-use Rattle.chains.specs.declared.bounds.Level.{Level}
 use Rattle.chains.specs.declared.bounds.Writes.TheVariants.{AtFinish}
 use Rattle.chain_tables.specs.Chains.{ChainData}
 use Rattle.limits.specs.declared.number.Number.{Number}
 use Rattle.limits.specs.declared.number.Number.TheVariants.{Cost, Jitter}
 use Rattle.limits.specs.Numbers.{value_of}
+use Rattle.least_chains.specs.LeastBound.{levels_at}
 use Rattle.chain_limits.specs.Reaches.{AnswersReach}
 use Rattle.chain_limits.specs.declared.reaches.Reach.{Reach}
 use Rattle.limit_lines.specs.LimitLines.{label_of, leaves_own, len_at, node_part}
@@ -73,26 +74,28 @@ abbrev pub left_line : ChainData → Option ℕ → List ℕ
 left_line chain None = []
 left_line chain (Some left) = codes "chain " ++ chain.name ++ codes " slack " ++ decimal left ++ codes "\n"
 
--- the lines of a chain with a limit, in an order with these levels: its slack, and how far the numbers of each task may go
-abbrev pub AreLinesWithin : Option ℕ → List Owner → ChainData → List Task → (order : List ℕ) → List Level
+-- the lines of a chain with a limit, in an order with these places: its slack, and how far the numbers of each task may go
+abbrev pub AreLinesWithin : Option ℕ → List Owner → ChainData → List Task → (order : List ℕ) → List PlaceData
     → List ℕ → Type 0
-AreLinesWithin None owners chain U order levels text = text ≡ []
-AreLinesWithin (Some limit) owners chain U order levels text =
+AreLinesWithin None owners chain U order places text = text ≡ []
+AreLinesWithin (Some limit) owners chain U order places text =
     (reaches : List ℕ) × AreReaches owners chain limit U order (length U) reaches
     × (text ≡ left_line chain
-    (left_of (bound_in chain.writes chain.offsets U levels chain.tasks) limit) ++ reaches)
-
-abbrev pub AreChainLines : List Owner → ChainData → List Task → (order : List ℕ) → List Level → List ℕ → Type 0
-AreChainLines owners chain U order levels text =
-    AreLinesWithin chain.limit owners chain U order levels text
+    (left_of (bound_in chain.writes chain.offsets U (levels_at places) chain.tasks) limit) ++ reaches)
 
 -- those of task i alone, without the slack
 abbrev pub AreTaskWithin : Option ℕ → List Owner → ChainData → List Task → (order : List ℕ) → ℕ → List ℕ → Type 0
 AreTaskWithin None owners chain U order i text = text ≡ []
 AreTaskWithin (Some limit) owners chain U order i text = AreReachesOf owners chain limit U order i text
 
-abbrev pub AreChainTaskLines : List Owner → ChainData → List Task → (order : List ℕ) → ℕ → List ℕ → Type 0
-AreChainTaskLines owners chain U order i text = AreTaskWithin chain.limit owners chain U order i text
+-- the lines of a chain in an order with these places, of the task that is asked about or of all; nothing without places
+abbrev pub AreChainLines : List Owner → ChainData → List Task → Option (List ℕ) → Option (List PlaceData)
+    → (asked : Option ℕ) → List ℕ → Type 0
+AreChainLines owners chain U (Some order) (Some places) (Some i) text =
+    AreTaskWithin chain.limit owners chain U order i text
+AreChainLines owners chain U (Some order) (Some places) None text =
+    AreLinesWithin chain.limit owners chain U order places text
+AreChainLines owners chain U _ _ asked text = text ≡ []
 
 -- ---- all chains
 -- stands past their end
@@ -103,16 +106,9 @@ abbrev pub chain_at : List ChainData → ℕ → ChainData
 chain_at chains k = slice_index_or chains k no_chain
 
 -- the lines of each of the first chains, as written
-abbrev pub AreChainsLines : List Owner → List ChainData → List Task → (order : List ℕ) → List Level → ℕ
-    → List ℕ → Type 0
-AreChainsLines owners chains U order levels zero text = text ≡ []
-AreChainsLines owners chains U order levels (suc k) text =
-    (front : List ℕ) × (lines : List ℕ) × AreChainsLines owners chains U order levels k front
-    × AreChainLines owners (chain_at chains k) U order levels lines × (text ≡ front ++ lines)
-
--- of each of them those of task i alone
-abbrev pub AreChainsTaskLines : List Owner → List ChainData → List Task → (order : List ℕ) → ℕ → ℕ → List ℕ → Type 0
-AreChainsTaskLines owners chains U order i zero text = text ≡ []
-AreChainsTaskLines owners chains U order i (suc k) text =
-    (front : List ℕ) × (lines : List ℕ) × AreChainsTaskLines owners chains U order i k front
-    × AreChainTaskLines owners (chain_at chains k) U order i lines × (text ≡ front ++ lines)
+abbrev pub AreChainsLines : List Owner → List ChainData → List Task → Option (List ℕ) → Option (List PlaceData)
+    → (asked : Option ℕ) → ℕ → List ℕ → Type 0
+AreChainsLines owners chains U order places asked zero text = text ≡ []
+AreChainsLines owners chains U order places asked (suc k) text =
+    (front : List ℕ) × (lines : List ℕ) × AreChainsLines owners chains U order places asked k front
+    × AreChainLines owners (chain_at chains k) U order places asked lines × (text ≡ front ++ lines)

@@ -1,17 +1,19 @@
 //! The lines of chains in an order that passes: how far the numbers of a set may go with each chain met.
-ghost use Rattle.std.specs.Prelude.{◌≡◌, ◌+◌, ◌++◌, ◌<◌, length, IfOk, OnOk, string_bytes};
+ghost use Rattle.std.specs.Prelude.{◌≡◌, ◌+◌, ◌++◌, ◌<◌, length, option_map, IfOk, IfSome, OnOk, string_bytes};
 ghost use Rattle.task_sheet.specs.Sheet.{IsValidSheet, task_at};
 ghost use Rattle.task_sheet.specs.Orders.{IsOrder};
 ghost use Rattle.chains.specs.Parts.{bound_in};
 ghost use Rattle.limits.specs.Numbers.{HasNumber};
 ghost use Rattle.chain_limits.specs.Reaches.{Grows};
-ghost use Rattle.limit_lines.specs.ChainReaches.{AreChainLines, AreChainTaskLines, AreChainsLines, AreChainsTaskLines, AreReaches, AreReachesOf, IsReachLine, growing_at, left_line, left_of, reach_line};
+ghost use Rattle.limit_lines.specs.ChainReaches.{AreChainLines, AreChainsLines, AreLinesWithin, AreReaches, AreReachesOf, AreTaskWithin, IsReachLine, growing_at, left_line, left_of, reach_line};
 
 use crate::text::{leaves_own, len_at, node_part, push_label};
+use assignment::Place;
 use ceilings::Tabled;
 use chain_limits::{Reach, reach_in_order};
 use chain_tables::Chain;
-use chains::{Level, bound_of};
+use chains::bound_of;
+use least_chains::levels_at;
 use limits::{Number, value_of};
 use lines::push_name;
 use owners::Owner;
@@ -164,56 +166,35 @@ fn push_left(text: &mut String, chain: &Chain, left: Option<u64>) -> Result<(), 
     }
 }
 
-/// The lines of a chain with a limit in an order, the lowest first, of these levels: what its bound leaves of the limit,
-/// where it is within it; and of each cost, jitter and length of a section the furthest value with which the order passes and the
-/// chain is met, where the order passes with a further one. The error is out of memory.
-pub fn chain_text(
+// The lines of a chain in an order with these places; nothing where it has no limit.
+fn all_text(
     alloc: Global,
     owners: &[Owner],
     set: &Tabled<'_>,
     order: &[usize],
-    levels: &[Level],
+    places: &[Place],
     chain: &Chain,
 ) -> Result<String, AllocError>
     requires { IsOrder set.now order.now }
-    ensures { IfOk result (λ text. AreChainLines owners.now chain.now set.now order.now levels.now (string_bytes text)) }
+    ensures { IfOk result (λ text. AreLinesWithin chain.now.limit owners.now chain.now set.now order.now places.now
+        (string_bytes text)) }
 {
     let mut text = String::new(alloc);
     let Some(limit) = chain.limit else {
         return Ok(text);
     };
     let reaches = all_reaches(alloc, owners, set, order, chain, limit)?;
+    let levels = levels_at(alloc, places)?;
     let writes = chain.writes;
     let offsets = &chain.offsets;
-    let bound = bound_of(alloc, set.tasks(), levels, writes, offsets, &chain.tasks)?;
+    let bound = bound_of(alloc, set.tasks(), &levels, writes, offsets, &chain.tasks)?;
     push_left(&mut text, chain, left_of(bound, limit))?;
     text.push_str(reaches.as_str())?;
     Ok(text)
 }
 
-/// The lines of each chain. The error is out of memory.
-pub fn chains_text(
-    alloc: Global,
-    owners: &[Owner],
-    set: &Tabled<'_>,
-    order: &[usize],
-    levels: &[Level],
-    chains: &[Chain],
-) -> Result<String, AllocError>
-    requires { IsOrder set.now order.now }
-    ensures { IfOk result (λ text. AreChainsLines owners.now chains.now set.now order.now levels.now
-        (length chains.now) (string_bytes text)) }
-{
-    let mut text = String::new(alloc);
-    for place in 0..chains.len() {
-        let lines = chain_text(alloc, owners, set, order, levels, &chains[place])?;
-        text.push_str(lines.as_str())?;
-    }
-    Ok(text)
-}
-
-// The lines of a task alone with a chain met.
-fn chain_task_text(
+// Those of a task alone, without its slack.
+fn task_text(
     alloc: Global,
     owners: &[Owner],
     set: &Tabled<'_>,
@@ -223,7 +204,8 @@ fn chain_task_text(
 ) -> Result<String, AllocError>
     requires order { IsOrder set.now order.now }
     requires task { task < length set.now }
-    ensures { IfOk result (λ text. AreChainTaskLines owners.now chain.now set.now order.now task (string_bytes text)) }
+    ensures { IfOk result (λ text. AreTaskWithin chain.now.limit owners.now chain.now set.now order.now task
+        (string_bytes text)) }
 {
     match chain.limit {
         Some(limit) => reaches_text(alloc, owners, set, order, chain, limit, task),
@@ -231,23 +213,51 @@ fn chain_task_text(
     }
 }
 
-/// Of each chain the lines of a task alone, without its slack. The error is out of memory.
-pub fn chains_task_text(
+/// The lines of a chain with a limit in an order, the lowest first, with these places: what its bound leaves of the limit,
+/// where it is within it; and of each cost, jitter and length of a section the furthest value with which the order passes and the
+/// chain is met, where the order passes with a further one. Of a task that is asked about its lines alone, without the slack;
+/// without places nothing. The error is out of memory.
+pub fn chain_text(
     alloc: Global,
     owners: &[Owner],
     set: &Tabled<'_>,
-    order: &[usize],
-    chains: &[Chain],
-    task: usize,
+    order: Option<&[usize]>,
+    places: Option<&[Place]>,
+    asked: Option<usize>,
+    chain: &Chain,
 ) -> Result<String, AllocError>
-    requires order { IsOrder set.now order.now }
-    requires task { task < length set.now }
-    ensures { IfOk result (λ text. AreChainsTaskLines owners.now chains.now set.now order.now task
-        (length chains.now) (string_bytes text)) }
+    requires order { IfSome (option_map (λ o. o.now) order) (IsOrder set.now) }
+    requires asked { IfSome asked (λ task. task < length set.now) }
+    ensures { IfOk result (λ text. AreChainLines owners.now chain.now set.now (option_map (λ o. o.now) order.entry)
+        (option_map (λ p. p.now) places.entry) asked (string_bytes text)) }
+{
+    let (Some(order), Some(places)) = (order, places) else {
+        return Ok(String::new(alloc));
+    };
+    match asked {
+        Some(task) => task_text(alloc, owners, set, order, chain, task),
+        None => all_text(alloc, owners, set, order, places, chain),
+    }
+}
+
+/// The lines of each chain. The error is out of memory.
+pub(crate) fn chains_text(
+    alloc: Global,
+    owners: &[Owner],
+    set: &Tabled<'_>,
+    order: Option<&[usize]>,
+    places: Option<&[Place]>,
+    asked: Option<usize>,
+    chains: &[Chain],
+) -> Result<String, AllocError>
+    requires order { IfSome (option_map (λ o. o.now) order) (IsOrder set.now) }
+    requires asked { IfSome asked (λ task. task < length set.now) }
+    ensures { IfOk result (λ text. AreChainsLines owners.now chains.now set.now (option_map (λ o. o.now) order.entry)
+        (option_map (λ p. p.now) places.entry) asked (length chains.now) (string_bytes text)) }
 {
     let mut text = String::new(alloc);
     for place in 0..chains.len() {
-        let lines = chain_task_text(alloc, owners, set, order, &chains[place], task)?;
+        let lines = chain_text(alloc, owners, set, order, places, asked, &chains[place])?;
         text.push_str(lines.as_str())?;
     }
     Ok(text)

@@ -309,7 +309,7 @@ fn node_text(alloc: Global, set: &TaskSet, order: Option<&[usize]>) -> Result<St
 /// The lines that are of no one task: of each interrupt its cost and its period, of a node that takes something each number,
 /// and of each lock the most that its sections may take where they have to be shorter; in an order that is given, the
 /// lowest first, only of what helps it. The error is out of memory.
-pub fn common_text(
+pub(crate) fn common_text(
     alloc: Global,
     owners: &[Owner],
     set: &Tabled<'_>,

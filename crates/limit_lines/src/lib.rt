@@ -7,8 +7,9 @@ mod common;
 mod given;
 mod locks;
 mod text;
+mod whole;
 
-pub use crate::chained::{chain_text, chains_task_text, chains_text};
-pub use crate::common::common_text;
+pub use crate::chained::chain_text;
 pub use crate::given::{order_given, places_given};
-pub use crate::text::{last_text, task_text};
+pub use crate::text::task_text;
+pub use crate::whole::{end_text, limits_text};

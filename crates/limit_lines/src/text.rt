@@ -204,7 +204,7 @@ fn push_along(
 }
 
 // The word, where it is so.
-fn push_if(text: &mut String, holds: bool, word: &str) -> Result<(), AllocError>
+pub(crate) fn push_if(text: &mut String, holds: bool, word: &str) -> Result<(), AllocError>
     ensures { OnOk result (string_bytes text.new ≡ string_bytes text.old
         ++ word_if holds word.now) }
 {
@@ -606,7 +606,7 @@ fn factor_text(
 
 /// The line of the factors on all execution, in an order that is given, the lowest first, and in any; nothing for the empty
 /// set. The error is out of memory.
-pub fn last_text(
+pub(crate) fn last_text(
     alloc: Global,
     set: &Tabled<'_>,
     order: Option<&[usize]>,

@@ -12,13 +12,14 @@ use Rattle.judge.specs.Levels.{rows_lines}
 use Rattle.judge.specs.declared.levels.LevelRow.{LevelRow}
 use Rattle.judge.specs.declared.explained.Parted.TheVariants.{Missed}
 use Rattle.chain_tables.specs.Chains.{ChainData}
-use Rattle.limit_lines.specs.LimitLines.{AreTaskLines, order_given, places_in}
+use Rattle.limit_lines.specs.LimitLines.{order_given, places_in}
+use Rattle.limit_lines.specs.Whole.{AreLimits}
 use Rattle.worst_lines.specs.WorstLines.{AreWorstLines}
 use Rattle.task_lines.specs.declared.owner.Owner.{Owner}
 use Rattle.set_commands.specs.Admit.{OfOneSays, Places}
 use Rattle.answering.specs.Statuses.{placing_status}
 use Rattle.set_commands.specs.Explain.{AreDecided, SaysExplained}
-use Rattle.set_commands.specs.Limits.{ListsChainsOf, SaysLimits}
+use Rattle.set_commands.specs.Limits.{SaysLimits}
 use Rattle.answering.specs.OrderParts.{placing_first}
 use Rattle.answering.specs.Printed.{Prints}
 use Rattle.answering.specs.Owning.{HasChained, HasOwned}
@@ -33,9 +34,7 @@ use Rattle.answering.specs.Asked.{asked_task}
 -- response, or that it has none, or its worst case
 abbrev pub AreLinesOf : TaskPart → List Owner → List ChainData → List Task → Placing → ℕ → List ℕ → Type 0
 AreLinesOf Limits owners chains U placing task text =
-    (numbers : List ℕ) × (chained : List ℕ)
-    × AreTaskLines owners U (order_given placing) (places_in placing) task numbers
-    × ListsChainsOf owners chains U placing task chained × (text ≡ numbers ++ chained)
+    AreLimits owners chains U (order_given placing) (places_in placing) (Some task) text
 AreLinesOf (Reasons all sorted) owners chains U placing task text =
     (explanation : Explanation) × (decided : List LevelRow) × Explains U placing explanation
     × AreDecided Missed U (Some task) placing decided

@@ -1,38 +1,34 @@
 //! `desk limits`.
-ghost use Rattle.std.specs.Prelude.{◌≡◌, ◌≢◌, not, ℕ, ◌<◌, ◌==◌, ◌&&◌, List, ◌≤◌, ◌++◌, length, Err, true, IfOk, OnOk, string_bytes};
+ghost use Rattle.std.specs.Prelude.{◌≡◌, ◌≢◌, ℕ, ◌==◌, ◌&&◌, List, ◌≤◌, ◌++◌, length, Err, None, true, IfOk, OnOk, string_bytes};
 ghost use Rattle.std.specs.Io.KnownBytes.{Appends};
-ghost use Rattle.assignment.specs.Placings.{IsPlacingOf};
-ghost use Rattle.limit_lines.specs.LimitLines.{AreTaskLines, IsLast, order_given, order_in, places_in};
-ghost use Rattle.limit_lines.specs.ChainReaches.{chain_at};
+ghost use Rattle.limit_lines.specs.LimitLines.{order_given, order_in, places_in};
+ghost use Rattle.limit_lines.specs.ChainReaches.{AreChainsLines};
+ghost use Rattle.limit_lines.specs.Whole.{AreLimits, AreNumbersOf};
 ghost use Rattle.set_commands.specs.Chained.{IsPlaced};
-ghost use Rattle.owners.specs.Clocks.{has_clock};
-ghost use Rattle.least_chains.specs.LeastBound.{levels_of};
-ghost use Rattle.set_commands.specs.Limits.{AreEndLines, AreLinesOfChain, IsListing, ListsAll, ListsChains, ListsFirst, ListsNumbers, ListsSome, SaysLimitsOf, alone_line};
+ghost use Rattle.set_commands.specs.Limits.{IsListing, ListsFirst, ListsSome, SaysLimitsOf, order_listed, places_listed};
 ghost use Rattle.answering.specs.OrderParts.{placing_first};
 ghost use Rattle.streams.specs.Sending.{Sends};
 ghost use Rattle.answering.specs.Outcomes.{IsSaidOn};
 
 use crate::chained::Placed;
 use answering::{CommandRefusal, OrderPart, Status, placing_status, placing_text, refuse};
-use assignment::{Placing, tasks_of_places};
+use assignment::{Place, Placing, tasks_of_places};
 use ceilings::{LockTable, Tabled};
 use chain_tables::Chain;
-use chains::Level;
-use limit_lines::{chain_text, common_text, last_text, order_given, places_given, task_text};
-use owners::{Owner, has_clock};
+use limit_lines::{chain_text, end_text, order_given, places_given, task_text};
+use owners::Owner;
 use std::alloc::{AllocError, Global};
 use std::io::Write;
 use streams::{Held, Watched};
 
-// What the lines of a placed set are made of, made before the first is printed.
+// What lines are made of, made before the first is printed.
 #[derive(Drop)]
 struct Listing<'a> {
     set: Tabled<'a>,
-    placing: &'a Placing,
-    // That of the placing, the lowest level first; nothing after a no.
-    order: Vec<usize>,
-    // The levels of that order.
-    levels: &'a [Level],
+    // The order that is looked at, the lowest level first, where there is one.
+    order: Option<&'a [usize]>,
+    // Its places, where it passes.
+    places: Option<&'a [Place]>,
     // The chains of the set.
     chains: &'a [Chain],
     // The first line.
@@ -60,67 +56,11 @@ pub(crate) fn order_of(alloc: Global, placing: &Placing) -> Result<Vec<usize>, A
     }
 }
 
-// The lines of the task at an index.
-fn lines_of_task(alloc: Global, listing: &Listing<'_>, task: usize) -> Result<String, AllocError>
-    requires listing { IsListing listing.now }
-    requires task { task < length listing.now.set }
-    ensures { IfOk result (λ text. AreTaskLines listing.now.owners.now listing.now.set
-        (order_given listing.now.placing.now) (places_in listing.now.placing.now) task (string_bytes text)) }
-{
-    let order = order_given(listing.placing, &listing.order);
-    let places = places_given(listing.placing);
-    task_text(alloc, listing.owners, &listing.set, order, places, task)
-}
-
 // Whether no task had a line, with one more text.
 fn is_still_silent(is_silent: bool, text: &str) -> bool
     ensures { result ≡ (is_silent && (length text.now == 0)) }
 {
     is_silent && text.is_empty()
-}
-
-// The same where no task is on a clock, whose period no line moves.
-fn is_told_alone(is_silent: bool, text: &str, owners: &[Owner]) -> bool
-    ensures { result ≡ ((is_silent && (length text.now == 0)) && not (has_clock owners.now)) }
-{
-    is_still_silent(is_silent, text) && !has_clock(owners)
-}
-
-// The line of the factors, behind that which says that no single change mends the set where nothing has a line.
-fn last_lines(alloc: Global, listing: &Listing<'_>, is_silent: bool) -> Result<String, AllocError>
-    requires { IsListing listing.now }
-    ensures { let placing = listing.now.placing.now in
-        IfOk result (λ text. (last : List ℕ) × IsLast listing.now.set (order_given placing) last
-        × (string_bytes text ≡ alone_line is_silent placing ++ last)) }
-{
-    let order = order_given(listing.placing, &listing.order);
-    let last = last_text(alloc, &listing.set, order)?;
-    match listing.placing {
-        Placing::Best(_) => Ok(last),
-        Placing::Stuck(_) => {
-            if !is_silent {
-                return Ok(last);
-            }
-            let mut text = String::new(alloc);
-            text.push_str("no single change\n")?;
-            text.push_str(last.as_str())?;
-            Ok(text)
-        }
-    }
-}
-
-// The lines behind those of the tasks.
-fn end_text(alloc: Global, listing: &Listing<'_>, is_silent: bool) -> Result<String, AllocError>
-    requires { IsListing listing.now }
-    ensures { IfOk result (λ text. AreEndLines listing.now.owners.now listing.now.set
-        listing.now.placing.now is_silent (string_bytes text)) }
-{
-    let order = order_given(listing.placing, &listing.order);
-    let mut text = common_text(alloc, listing.owners, &listing.set, order)?;
-    let is_silent = is_told_alone(is_silent, text.as_str(), listing.owners);
-    let last = last_lines(alloc, listing, is_silent)?;
-    text.push_str(last.as_str())?;
-    Ok(text)
 }
 
 // Puts the first line, the lines of each task as they are found, and those behind them.
@@ -132,11 +72,13 @@ fn put_numbers<W: Write + Drop>(
 ) -> Result<(), ListFault>
     requires { IsListing listing.now }
     ensures all { OnOk result ((text : List ℕ)
-        × ListsNumbers listing.now.owners.now listing.now.set listing.now.placing.now text
+        × AreNumbersOf listing.now.owners.now listing.now.set (order_listed listing.now) (places_listed listing.now)
+        None text
         × Sends (W.contents output.old.inner) held.old (W.contents output.new.inner) held.new
         (string_bytes listing.now.first ++ text)) }
     ensures some { result ≡ Err ListFault.OutOfMemory
-        → (text : List ℕ) × ListsFirst listing.now.owners.now listing.now.set listing.now.placing.now text
+        → (text : List ℕ)
+        × ListsFirst listing.now.owners.now listing.now.set (order_listed listing.now) (places_listed listing.now) text
         × Sends (W.contents output.old.inner) held.old (W.contents output.new.inner) held.new
         (string_bytes listing.now.first ++ text) }
     ensures ok { result ≢ Err ListFault.WriteFailed
@@ -146,9 +88,11 @@ fn put_numbers<W: Write + Drop>(
     if held.put(listing.first.as_bytes(), output).is_err() {
         return Err(ListFault::WriteFailed);
     }
+    let (owners, set) = (listing.owners, &listing.set);
+    let (order, places) = (listing.order, listing.places);
     let mut is_silent = true;
-    for task in 0..listing.set.len() {
-        let Ok(text) = lines_of_task(alloc, listing, task) else {
+    for task in 0..set.len() {
+        let Ok(text) = task_text(alloc, owners, set, order, places, task) else {
             return Err(ListFault::OutOfMemory);
         };
         is_silent = is_still_silent(is_silent, text.as_str());
@@ -156,33 +100,12 @@ fn put_numbers<W: Write + Drop>(
             return Err(ListFault::WriteFailed);
         }
     }
-    let Ok(text) = end_text(alloc, listing, is_silent) else {
+    let Ok(text) = end_text(alloc, owners, set, order, places, is_silent) else {
         return Err(ListFault::OutOfMemory);
     };
     match held.put(text.as_bytes(), output) {
         Ok(()) => Ok(()),
         Err(_) => Err(ListFault::WriteFailed),
-    }
-}
-
-// The lines of the chain at a place; nothing after a no.
-fn lines_of_chain(alloc: Global, listing: &Listing<'_>, place: usize) -> Result<String, AllocError>
-    requires listing { IsListing listing.now }
-    requires place { place < length listing.now.chains.now }
-    ensures { IfOk result (λ text. AreLinesOfChain listing.now.owners.now
-        (chain_at listing.now.chains.now place) listing.now.set listing.now.placing.now (string_bytes text)) }
-{
-    let chain = &listing.chains[place];
-    match listing.placing {
-        Placing::Best(_) => chain_text(
-            alloc,
-            listing.owners,
-            &listing.set,
-            &listing.order,
-            listing.levels,
-            chain,
-        ),
-        Placing::Stuck(_) => Ok(String::new(alloc)),
     }
 }
 
@@ -195,20 +118,23 @@ fn put_chains<W: Write + Drop>(
 ) -> Result<(), ListFault>
     requires { IsListing listing.now }
     ensures all { OnOk result ((text : List ℕ)
-        × ListsChains listing.now.owners.now listing.now.chains.now listing.now.set listing.now.placing.now
-        (length listing.now.chains.now) text
+        × AreChainsLines listing.now.owners.now listing.now.chains.now listing.now.set (order_listed listing.now)
+        (places_listed listing.now) None (length listing.now.chains.now) text
         × Sends (W.contents output.old.inner) held.old (W.contents output.new.inner) held.new text) }
     ensures some { result ≡ Err ListFault.OutOfMemory
         → (text : List ℕ) × (count : ℕ) × (count ≤ length listing.now.chains.now)
-        × ListsChains listing.now.owners.now listing.now.chains.now listing.now.set listing.now.placing.now
-        count text
+        × AreChainsLines listing.now.owners.now listing.now.chains.now listing.now.set (order_listed listing.now)
+        (places_listed listing.now) None count text
         × Sends (W.contents output.old.inner) held.old (W.contents output.new.inner) held.new text }
     ensures ok { result ≢ Err ListFault.WriteFailed
         → output.new.has_failed ≡ output.old.has_failed }
     ensures failed { result ≡ Err ListFault.WriteFailed → output.new.has_failed ≡ true }
 {
+    let (owners, set) = (listing.owners, &listing.set);
+    let (order, places) = (listing.order, listing.places);
     for place in 0..listing.chains.len() {
-        let Ok(text) = lines_of_chain(alloc, listing, place) else {
+        let chain = &listing.chains[place];
+        let Ok(text) = chain_text(alloc, owners, set, order, places, None, chain) else {
             return Err(ListFault::OutOfMemory);
         };
         if held.put(text.as_bytes(), output).is_err() {
@@ -227,12 +153,14 @@ fn put_lines<W: Write + Drop>(
 ) -> Result<(), ListFault>
     requires { IsListing listing.now }
     ensures all { OnOk result ((text : List ℕ)
-        × ListsAll listing.now.owners.now listing.now.chains.now listing.now.set listing.now.placing.now text
+        × AreLimits listing.now.owners.now listing.now.chains.now listing.now.set (order_listed listing.now)
+        (places_listed listing.now) None text
         × Sends (W.contents output.old.inner) held.old (W.contents output.new.inner) held.new
         (string_bytes listing.now.first ++ text)) }
     ensures some { result ≡ Err ListFault.OutOfMemory
         → (text : List ℕ)
-        × ListsSome listing.now.owners.now listing.now.chains.now listing.now.set listing.now.placing.now text
+        × ListsSome listing.now.owners.now listing.now.chains.now listing.now.set (order_listed listing.now)
+        (places_listed listing.now) text
         × Sends (W.contents output.old.inner) held.old (W.contents output.new.inner) held.new
         (string_bytes listing.now.first ++ text) }
     ensures ok { result ≢ Err ListFault.WriteFailed
@@ -255,11 +183,14 @@ fn print_lines<W: Write + Drop>(
 ) -> Result<(), ListFault>
     requires { IsListing listing.now }
     ensures all { OnOk result ((text : List ℕ)
-        × ListsAll listing.now.owners.now listing.now.chains.now listing.now.set listing.now.placing.now text
+        × AreLimits listing.now.owners.now listing.now.chains.now listing.now.set (order_listed listing.now)
+        (places_listed listing.now) None text
         × Appends (W.contents output.old.inner) (W.contents output.new.inner)
         (string_bytes listing.now.first ++ text)) }
     ensures some { result ≡ Err ListFault.OutOfMemory
-        → (text : List ℕ) × ListsSome listing.now.owners.now listing.now.chains.now listing.now.set listing.now.placing.now text
+        → (text : List ℕ)
+        × ListsSome listing.now.owners.now listing.now.chains.now listing.now.set (order_listed listing.now)
+        (places_listed listing.now) text
         × Appends (W.contents output.old.inner) (W.contents output.new.inner)
         (string_bytes listing.now.first ++ text) }
     ensures ok { result ≢ Err ListFault.WriteFailed
@@ -277,29 +208,29 @@ fn print_lines<W: Write + Drop>(
     }
 }
 
-// What the lines of a placed set are made of.
+// What the lines of a placed set, whose order this is, are made of.
 fn make_ready<'a>(
     alloc: Global,
     placed: &'a Placed,
     set: Tabled<'a>,
+    order: &'a [usize],
 ) -> Result<Listing<'a>, AllocError>
     requires placed { IsPlaced placed.now }
     requires set { set ≡ placed.now.tasks }
+    requires order { order.now ≡ order_in placed.now.placing }
     ensures owners { IfOk result (λ listing. listing.owners.now ≡ placed.now.owners.items) }
     ensures chains { IfOk result (λ listing. listing.chains.now ≡ placed.now.chains.items) }
     ensures set { IfOk result (λ listing. listing.set ≡ placed.now.tasks) }
-    ensures placing { IfOk result (λ listing. listing.placing.now ≡ placed.now.placing) }
-    ensures listing { IfOk result IsListing }
+    ensures order { IfOk result (λ listing. order_listed listing ≡ order_given placed.now.placing) }
+    ensures places { IfOk result (λ listing. places_listed listing ≡ places_in placed.now.placing) }
     ensures first { IfOk result (λ listing. string_bytes listing.first
         ≡ placing_first placed.now.tasks placed.now.placing) }
 {
-    let order = order_of(alloc, &placed.placing)?;
     let first = placing_text(alloc, OrderPart::Count, set.tasks(), &placed.placing)?;
     Ok(Listing {
         set,
-        placing: &placed.placing,
-        order,
-        levels: &placed.levels,
+        order: order_given(&placed.placing, order),
+        places: places_given(&placed.placing),
         chains: &placed.chains,
         first,
         owners: &placed.owners,
@@ -319,7 +250,10 @@ pub(crate) fn print_placing<W: Write + Drop>(
     let Ok(table) = LockTable::new(alloc, &placed.tasks) else {
         return refuse(CommandRefusal::OutOfMemory, output);
     };
-    let Ok(listing) = make_ready(alloc, placed, Tabled::of(&placed.tasks, &table)) else {
+    let Ok(order) = order_of(alloc, &placed.placing) else {
+        return refuse(CommandRefusal::OutOfMemory, output);
+    };
+    let Ok(listing) = make_ready(alloc, placed, Tabled::of(&placed.tasks, &table), &order) else {
         return refuse(CommandRefusal::OutOfMemory, output);
     };
     match print_lines(alloc, &listing, output) {

@@ -1,11 +1,9 @@
 //! What is said of one task of a set, where the words ask about it.
 ghost use Rattle.std.specs.Prelude.{◌≡◌, ◌++◌, ◌<◌, length, IfOk, option_map, Some, string_bytes};
 ghost use Rattle.assignment.specs.Placings.{IsPlacingOf};
-ghost use Rattle.limit_lines.specs.LimitLines.{AreTaskLines, order_given, order_in, places_in};
 ghost use Rattle.worst_lines.specs.WorstLines.{AreWorstLines};
 ghost use Rattle.set_commands.specs.Admit.{OfPlaced};
 ghost use Rattle.set_commands.specs.Chained.{IsPlaced};
-ghost use Rattle.set_commands.specs.Limits.{ListsChainsOf};
 ghost use Rattle.set_commands.specs.OneTask.{AreLinesOf, SaysAll, SaysPart, SaysTask, first_said};
 ghost use Rattle.answering.specs.Outcomes.{IsSaidOn};
 
@@ -18,9 +16,7 @@ use answering::{
 };
 use assignment::Placing;
 use ceilings::{LockTable, Tabled};
-use chain_tables::Chain;
-use limit_lines::{chains_task_text, order_given, places_given};
-use owners::Owner;
+use limit_lines::{order_given, places_given};
 use std::alloc::{AllocError, Global};
 use std::io::Write;
 use streams::Watched;
@@ -40,70 +36,27 @@ pub enum TaskPart {
     Worst,
 }
 
-// How far the numbers of a task may go.
-fn numbers_text(
-    alloc: Global,
-    owners: &[Owner],
-    set: &Tabled<'_>,
-    placing: &Placing,
-    order: &[usize],
-    task: usize,
-) -> Result<String, AllocError>
-    requires placing { IsPlacingOf set.now placing.now }
-    requires order { order.now ≡ order_in placing.now }
-    requires task { task < length set.now }
-    ensures { IfOk result (λ text. AreTaskLines owners.now set.now (order_given placing.now)
-        (places_in placing.now) task (string_bytes text)) }
-{
-    let given = order_given(placing, order);
-    let places = places_given(placing);
-    limit_lines::task_text(alloc, owners, set, given, places, task)
-}
-
-// The same with each chain met in the order of a placing; nothing after a no.
-fn reaches_text(
-    alloc: Global,
-    owners: &[Owner],
-    chains: &[Chain],
-    set: &Tabled<'_>,
-    placing: &Placing,
-    order: &[usize],
-    task: usize,
-) -> Result<String, AllocError>
-    requires placing { IsPlacingOf set.now placing.now }
-    requires order { order.now ≡ order_in placing.now }
-    requires task { task < length set.now }
-    ensures { IfOk result (λ text. ListsChainsOf owners.now chains.now set.now placing.now task (string_bytes text)) }
-{
-    match placing {
-        Placing::Best(_) => chains_task_text(alloc, owners, set, order, chains, task),
-        Placing::Stuck(_) => Ok(String::new(alloc)),
-    }
-}
-
-// Both.
+// How far the numbers of a task may go, also with each chain met.
 fn limits_text(alloc: Global, placed: &Placed, task: usize) -> Result<Vec<u8>, AllocError>
     requires placed { IsPlaced placed.now }
     requires task { task < length placed.now.tasks }
     ensures { IfOk result (λ text. AreLinesOf TaskPart.Limits placed.now.owners.items placed.now.chains.items
         placed.now.tasks placed.now.placing task text.items) }
 {
-    let set = &placed.tasks;
     let placing = &placed.placing;
-    let table = LockTable::new(alloc, set)?;
+    let table = LockTable::new(alloc, &placed.tasks)?;
     let order = order_of(alloc, placing)?;
-    let tabled = Tabled::of(set, &table);
-    let text = numbers_text(alloc, &placed.owners, &tabled, placing, &order, task)?;
-    let reaches = reaches_text(
+    let text = limit_lines::limits_text(
         alloc,
         &placed.owners,
         &placed.chains,
-        &tabled,
-        placing,
-        &order,
-        task,
+        &Tabled::of(&placed.tasks, &table),
+        order_given(placing, &order),
+        places_given(placing),
+        Some(task),
     )?;
-    let lines = joined(alloc, text.as_bytes(), reaches.as_bytes())?;
+    let mut lines = Vec::new(alloc);
+    lines.extend_from_slice(text.as_bytes())?;
     Ok(lines)
 }
 

@@ -1,5 +1,5 @@
 -- What `desk limits SET --at SETTINGS` answers and prints.
-use Rattle.std.specs.Prelude.{◌≡◌, ◌==◌, ◌&&◌, not, ℕ, Bool, true, false, List, [], ◌++◌, length, codes, Option, Some, None, Result, Ok, Err, string_bytes}
+use Rattle.std.specs.Prelude.{◌≡◌, ℕ, false, List, ◌++◌, Option, Some, None, Result, Ok, Err, string_bytes}
 use Rattle.task_sheet.specs.Sheet.{Task}
 use Rattle.assignment.specs.Places.{PlaceData}
 use Rattle.judge.specs.Judgements.{all_meet, judged_of, order_judged}
@@ -7,17 +7,12 @@ use Rattle.judge.specs.JudgementLines.{meets_line}
 use Rattle.judge.specs.declared.judging.JudgedTask.{JudgedTask}
 use Rattle.judge.specs.declared.node.JudgedNode.{JudgedNode}
 use Rattle.chain_tables.specs.Chains.{ChainData}
-use Rattle.limit_lines.specs.LimitLines.{AreTaskLines, IsLast}
-use Rattle.limit_lines.specs.ChainReaches.{AreChainsLines, AreChainsTaskLines}
-use Rattle.least_chains.specs.LeastBound.{levels_at}
+use Rattle.limit_lines.specs.Whole.{AreLimits}
 use Rattle.two_input_commands.specs.InOrder.{AsksIn}
 use Rattle.two_input_commands.specs.Judge.{judged_status}
-use Rattle.answering.specs.LimitLines.{AreLines}
 use Rattle.answering.specs.Owning.{HasChained, HaveOwned}
 use Rattle.answering.specs.Printed.{Prints}
 use Rattle.answering.specs.Sets.{OnBoth}
-use Rattle.limit_lines.specs.Common.{AreCommonLines}
-use Rattle.owners.specs.Clocks.{has_clock}
 use Rattle.task_lines.specs.declared.owner.Owner.{Owner}
 use Rattle.task_sheet.specs.declared.prefer.Preference.{Preference}
 use Rattle.preferences.specs.declared.asking.Asking.{Asking}
@@ -31,45 +26,14 @@ abbrev pub ArePlacesOf : List JudgedTask → Option (List PlaceData) → Type 0
 ArePlacesOf judged (Some places) = judged ≡ judged_of places
 ArePlacesOf judged None = all_meet judged ≡ false
 
--- the line that no single change mends an order without places, where nothing has a line
-abbrev pub alone_words : (is_silent : Bool) → Option (List PlaceData) → List ℕ
-alone_words is_silent (Some places) = []
-alone_words false None = []
-alone_words true None = codes "no single change\n"
-
--- the text is the lines of the task that is asked about, in an order with these places; else those of each task, by rank, of
--- the interrupts and the node, that line, unless a task is on a clock, and that of the factors
-abbrev pub AreLimitsIn : List Owner → List Task → (order : List ℕ) → Option (List PlaceData)
-    → (asked : Option ℕ) → List ℕ → Type 0
-AreLimitsIn owners U order places (Some task) text =
-    AreTaskLines owners U (Some order) places task text
-AreLimitsIn owners U order places None text =
-    (lines : List ℕ) × (common : List ℕ) × (last : List ℕ)
-    × AreLines owners U (Some order) places (length U) lines
-    × AreCommonLines owners U (Some order) common × IsLast U (Some order) last
-    × (text ≡ ((lines ++ common)
-    ++ alone_words ((length (lines ++ common) == 0) && not (has_clock owners)) places) ++ last)
-
--- the text is the lines of chains in an order with these places, or those of the task that is asked about; nothing without
--- places
-abbrev pub AreChainedIn : List Owner → List ChainData → List Task → (order : List ℕ) → Option (List PlaceData)
-    → (asked : Option ℕ) → List ℕ → Type 0
-AreChainedIn owners chains U order None asked text = text ≡ []
-AreChainedIn owners chains U order (Some places) (Some task) text =
-    AreChainsTaskLines owners chains U order task (length chains) text
-AreChainedIn owners chains U order (Some places) None text =
-    AreChainsLines owners chains U order (levels_at places) (length chains) text
-
--- the text is what is printed of an order: whether all its tasks meet their deadlines, how far its numbers may go, and how far
--- with each chain met
+-- the text is what is printed of an order: whether all its tasks meet their deadlines, and how far its numbers may go, also with
+-- each chain met
 abbrev pub IsLimitsText : List Owner → List ChainData → List Task → JudgedNode → (asked : Option ℕ) → List ℕ
     → Type 0
 IsLimitsText owners chains U node asked text =
-    (places : Option (List PlaceData)) × (lines : List ℕ) × (chained : List ℕ)
-    × ArePlacesOf node.judged.items places
-    × AreLimitsIn owners U (order_judged node.judged.items) places asked lines
-    × AreChainedIn owners chains U (order_judged node.judged.items) places asked chained
-    × (text ≡ (meets_line U node.judged.items ++ lines) ++ chained)
+    (places : Option (List PlaceData)) × (lines : List ℕ) × ArePlacesOf node.judged.items places
+    × AreLimits owners chains U (Some (order_judged node.judged.items)) places asked lines
+    × (text ≡ meets_line U node.judged.items ++ lines)
 
 -- the answer on a set and the text of settings: what becomes of each task in the order that they give, and what is printed
 -- of it

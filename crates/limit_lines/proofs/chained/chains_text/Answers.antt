@@ -1,4 +1,4 @@
-use Rattle.std.proofs.Common.{◌∙◌, ◌++◌, ℕ, List, add-one, ap, subst, string_bytes}
+use Rattle.std.proofs.Common.{◌∙◌, ◌++◌, ℕ, List, add-one, ap, option_map, subst, string_bytes}
 use Rattle.std.proofs.lemmas.List.{get_or_read}
 use Rattle.limit_lines.specs.ChainReaches.{AreChainLines, no_chain}
 use Rattle.limit_lines.proofs.chained.chains_text.Goals as goal
@@ -13,7 +13,7 @@ loop-place-preserved c =
       front,
       lines,
       c.loop-place.invariant,
-      subst (λ x. AreChainLines c.args.owners.now x c.args.set.now c.args.order.now c.args.levels.now lines) read
-          c.in_ok-lines.ensures,
+      subst (λ x. AreChainLines c.args.owners.now x c.args.set.now (option_map (λ o. o.now) c.args.order)
+          (option_map (λ p. p.now) c.args.places) c.args.asked lines) read c.in_ok-lines.ensures,
       c.in_ok-push_str.ensures.bytes ∙ ap (λ (t : List ℕ). front ++ t) c.as_str.ensures.value,
     )

@@ -7,6 +7,7 @@ use Rattle.answering.specs.Refusals.{refusal_line}
 use Rattle.set_commands.specs.declared.limits_lines.ListFault.{ListFault}
 use Rattle.set_commands.specs.declared.limits_lines.ListFault.TheVariants as list
 use Rattle.answering.specs.declared.refusal.CommandRefusal.TheVariants as refusal
+use Rattle.limit_lines.proofs.LineLaws.{given_orders}
 use Rattle.answering.proofs.CarriedOut.{never_err, placing_ends, said_sound, wanting, wanting_after}
 use Rattle.set_commands.proofs.limits_lines.print_placing.Goals as goal
 
@@ -22,7 +23,9 @@ pub make_ready-requires-clause-set : goal.make_ready-requires-clause-set
 make_ready-requires-clause-set g c = c.of.ensures
 
 pub print_lines-requires : goal.print_lines-requires
-print_lines-requires g c = c.in-Ok-make_ready.ensures.listing
+print_lines-requires g c =
+    let made = c.in-Ok-make_ready.ensures in
+    rw (made.order, made.set) (given_orders c.args.placed.now.tasks c.args.placed.now.placing c.requires.placing)
 
 pub returns-in-Ok-print_lines : goal.returns-in-Ok-print_lines
 returns-in-Ok-print_lines g c =
@@ -31,7 +34,7 @@ returns-in-Ok-print_lines g c =
     said_sound (c.in-Ok-print_lines.ensures.ok never_err)
     (λ is. placing_ends c.args.placed.now.placing (sym c.placing_status.ensures ∙ is)) (inl (
       said.0,
-      inl (rw (made.owners, made.chains, made.set, made.placing) at said.1, c.placing_status.ensures),
+      inl (rw (made.owners, made.chains, made.set, made.order, made.places) at said.1, c.placing_status.ensures),
       rw made.first at said.2,
     ))
 
@@ -50,6 +53,6 @@ returns-in-Err-OutOfMemory g c =
     (rw made.first at said.2) c.refuse-in-Err-OutOfMemory.ensures
     (λ all is. inl (
       said.0 ++ none,
-      inr (said.0, rw (made.owners, made.chains, made.set, made.placing) at said.1, refl, is),
+      inr (said.0, rw (made.owners, made.chains, made.set, made.order, made.places) at said.1, refl, is),
       subst (λ (text : List ℕ). Appends before after text) (append_assoc first said.0 none) all,
     ))

@@ -2,9 +2,8 @@ use Rattle.std.proofs.Common.{◌≡◌, ◌∙◌, ◌++◌, ◌==◌, ◌&&◌
 use Rattle.std.proofs.Common.{refl, sym, subst, arith, append_assoc, append-nil, string_bytes}
 use Rattle.std.specs.Io.KnownBytes.{Appends, append_known}
 use Rattle.std.proofs.KnownBytes.{Appends-trans}
-use Rattle.limit_lines.specs.LimitLines.{order_given, places_in}
-use Rattle.answering.specs.LimitLines.{AreLines}
-use Rattle.set_commands.specs.Limits.{AreEndLines}
+use Rattle.limit_lines.specs.Whole.{AreEndLines, AreLines}
+use Rattle.set_commands.specs.Limits.{order_listed, places_listed}
 use Rattle.set_commands.proofs.ListedLimits.{silent_more, where_sound}
 use Rattle.set_commands.proofs.limits_lines.put_numbers.Goals as goal
 
@@ -58,8 +57,8 @@ loop-task-preserved g c =
 
 pub returns-in-Ok-put-clause-all : goal.returns-in-Ok-put-clause-all
 returns-in-Ok-put-clause-all g c =
-    let U = c.args.listing.now.set in
-    let placing = c.args.listing.now.placing.now in
+    let listing = c.args.listing.now in
+    let U = listing.set in
     let said = c.loop-task.invariant.said in
     let end = c.in-Ok-end_text.ensures in
     let ends : List ℕ = string_bytes c.in-Ok-end_text.text in
@@ -78,9 +77,10 @@ returns-in-Ok-put-clause-all g c =
       (
         said.0,
         ends,
-        subst (λ n. AreLines c.args.listing.now.owners.now U (order_given placing) (places_in placing) n
-            said.0) count said.2,
-        subst (λ (b : Bool). AreEndLines c.args.listing.now.owners.now U placing b ends) said.1 end,
+        subst (λ n. AreLines listing.owners.now U (order_listed listing) (places_listed listing) n said.0)
+            count said.2,
+        subst (λ (b : Bool). AreEndLines listing.owners.now U (order_listed listing) (places_listed listing) b
+            ends) said.1 end,
         refl,
       ),
       subst (λ bs. Appends before after bs)

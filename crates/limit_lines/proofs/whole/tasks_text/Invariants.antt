@@ -1,6 +1,6 @@
 use Rattle.std.proofs.Common.{option_map, string_bytes}
-use Rattle.answering.specs.LimitLines.{AreLines}
-use Rattle.two_input_commands.proofs.limits_at_lines.each_text.Given as goal
+use Rattle.limit_lines.specs.Whole.{AreLines}
+use Rattle.limit_lines.proofs.whole.tasks_text.Given as goal
 
 abbrev pub invariant-loop-task : goal.invariant-loop-task
 invariant-loop-task l = AreLines l.owners l.set (option_map (λ o. o.now) l.order) (option_map (λ p. p.now) l.places)

@@ -1,5 +1,5 @@
 use Rattle.std.proofs.Common.{◌≡◌, ◌∙◌, ◌++◌, ℕ, List, length, add-one, ap, arith, string_bytes}
-use Rattle.two_input_commands.proofs.limits_at_lines.each_text.Goals as goal
+use Rattle.limit_lines.proofs.whole.tasks_text.Goals as goal
 
 pub loop-task-preserved : goal.loop-task-preserved
 loop-task-preserved c =
