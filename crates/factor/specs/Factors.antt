@@ -1,10 +1,14 @@
 -- All execution of a set taken so many thousandths of itself, as on a slower processor, and the greatest such factor with
--- which some order passes.
-use Rattle.std.specs.Prelude.{ℕ, ◌*◌, ◌<◌, ◌≤◌, List, Option, Some, None}
+-- which it passes.
+use Rattle.std.specs.Prelude.{ℕ, ◌+◌, ◌*◌, ◌<◌, ◌≤◌, List, Option, Some, None}
 use Rattle.task_sheet.specs.Sheet.{Task, task_at}
 use Rattle.task_sheet.specs.Indexes.{Indexes}
 use Rattle.task_sheet.specs.Demand.{limit_of, demand_of}
-use Rattle.latest_first.specs.Tested.{IsPassingBy, IsFeasibleBy}
+use Rattle.latest_first.specs.LatestFirst.{IsFirstLatest}
+use Rattle.latest_first.specs.Tested.{ObstructsMostBy}
+use Rattle.other_numbers.specs.Easier.{AreEasierBy}
+use Rattle.other_numbers.specs.InOrder.{PassesInBy}
+use Rattle.factor.specs.declared.Slowdown.{Slowdown}
 
 -- task i passes with the tasks H above it where all execution takes so many thousandths: some time from 1 to its limit
 -- covers as much of its demand
@@ -12,37 +16,36 @@ abbrev pub PassesAt : (factor : ℕ) → List Task → ℕ → Indexes → Type 
 PassesAt factor U i H =
     (t : ℕ) × (1 ≤ t) × (t ≤ limit_of (task_at U i)) × (factor * demand_of U i H t ≤ 1000 * t)
 
--- an order of the set in which each task passes so
-abbrev pub IsPassingAt : (factor : ℕ) → List Task → List ℕ → Type 0
-IsPassingAt factor U order = IsPassingBy (PassesAt factor U) U order
+-- this order passes so, or some order where none is given
+abbrev pub PassesInAt : (factor : ℕ) → Option (List ℕ) → List Task → Type 0
+PassesInAt factor order U = PassesInBy (PassesAt factor U) order U
 
--- some order passes so
-abbrev pub IsFeasibleAt : (factor : ℕ) → List Task → Type 0
-IsFeasibleAt factor U = IsFeasibleBy (PassesAt factor U) U
-
--- the greatest factor, from 1 on, at which something is so
-pub record IsGreatestFor (IsSo : ℕ → Type 0) (factor : ℕ) : Type 0 where
+-- the greatest factor, from 1 on, at which it passes
+pub record IsFactor (U : List Task) (order : Option (List ℕ)) (factor : ℕ) : Type 0 where
   pub some : 1 ≤ factor
-  pub is_so : IsSo factor
-  pub greatest : (more : ℕ) → factor < more → ¬ IsSo more
+  pub passes : PassesInAt factor order U
+  pub greatest : (more : ℕ) → factor < more → ¬ PassesInAt more order U
 
--- the greatest factor at which some order passes
-abbrev pub IsFactor : List Task → ℕ → Type 0
-IsFactor U factor = IsGreatestFor (λ f. IsFeasibleAt f U) factor
+-- that, or none where no factor helps
+abbrev pub AnswersFactor : List Task → Option (List ℕ) → Option ℕ → Type 0
+AnswersFactor U order (Some factor) = IsFactor U order factor
+AnswersFactor U order None = (factor : ℕ) → 1 ≤ factor → ¬ PassesInAt factor order U
 
--- the greatest factor at which the order passes as it stands
-abbrev pub IsFactorIn : List Task → List ℕ → ℕ → Type 0
-IsFactorIn U order factor = IsGreatestFor (λ f. IsPassingAt f U order) factor
+-- of the tasks that are in the way of every order at this factor the first with the longest limit of those that need not
+-- stand above another of them
+abbrev pub FailsFirst : List Task → (factor : ℕ) → ℕ → Type 0
+FailsFirst U factor i = (S : Indexes) × ObstructsMostBy (PassesAt factor U) U S × IsFirstLatest U S i
 
--- no factor helps that order
-abbrev pub HasNoFactorIn : List Task → List ℕ → Type 0
-HasNoFactorIn U order = (factor : ℕ) → 1 ≤ factor → ¬ IsPassingAt factor U order
+-- the greatest factor at which some order passes, and the task that fails first past it; or none where none helps
+abbrev pub AnswersSlowdown : List Task → Option Slowdown → Type 0
+AnswersSlowdown U (Some found) = IsFactor U None found.most × FailsFirst U (found.most + 1) found.task
+AnswersSlowdown U None = AnswersFactor U None None
 
--- the greatest factor at which it passes, or none where none helps it
-abbrev pub AnswersFactorOf : List Task → List ℕ → Option ℕ → Type 0
-AnswersFactorOf U order (Some factor) = IsFactorIn U order factor
-AnswersFactorOf U order None = HasNoFactorIn U order
+-- so many thousandths of the other time at most
+abbrev pub IsAtMost : (factor slow time : ℕ) → Type 0
+IsAtMost factor slow time = 1000 * slow ≤ factor * time
 
--- no factor helps
-abbrev pub HasNoFactor : List Task → Type 0
-HasNoFactor U = (factor : ℕ) → 1 ≤ factor → ¬ IsFeasibleAt factor U
+-- each task of a set asks no more than that of another one, and what it executes, its cost, its sections, its timer and the
+-- interrupts on its account, takes at most so many thousandths, one by one
+abbrev pub AreSlow : (factor : ℕ) → List Task → List Task → Type 0
+AreSlow factor = AreEasierBy (IsAtMost factor)

@@ -1,3 +1,1 @@
 pub mod Factors
-pub mod Failing
-pub mod Slower

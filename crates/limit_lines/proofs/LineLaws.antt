@@ -7,7 +7,7 @@ use Rattle.assignment.specs.declared.placing.Placing.{Placing}
 use Rattle.assignment.specs.declared.placing.Placing.TheVariants.{Best, Stuck}
 use Rattle.limits.specs.declared.number.Number.{Number}
 use Rattle.limits.specs.Numbers.{MayHave, numbered}
-use Rattle.factor.specs.Failing.{AnswersFactor}
+use Rattle.factor.specs.Factors.{AnswersSlowdown}
 use Rattle.factor.specs.declared.Slowdown.{Slowdown}
 use Rattle.limits.specs.Written.{node_of, written_task, written}
 use Rattle.limit_lines.specs.LimitLines.{AnswersIn, order_given}
@@ -41,7 +41,7 @@ node-within [] set =
 node-within (t ∷ ts) set = (set.valid 0 no_task (omega arith)).overheads
 
 -- the task that fails first is one of the set
-pub fails-inside : (U : List Task) (found : Option Slowdown) → AnswersFactor U found
+pub fails-inside : (U : List Task) (found : Option Slowdown) → AnswersSlowdown U found
     → IfSome found (λ slowdown. slowdown.task < length U)
 fails-inside U (Some found) is =
     let (S, obstructs, first) = is.1 in

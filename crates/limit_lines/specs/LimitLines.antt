@@ -19,8 +19,7 @@ use Rattle.owners.specs.Followers.{along}
 use Rattle.task_lines.specs.declared.owner.Owner.{Owner}
 use Rattle.limits.specs.declared.number.Number.{Number}
 use Rattle.limits.specs.declared.number.Number.TheVariants.{Cost, Period, Deadline, Jitter, Len, InterruptCost, InterruptPeriod}
-use Rattle.factor.specs.Factors.{AnswersFactorOf}
-use Rattle.factor.specs.Failing.{AnswersFactor}
+use Rattle.factor.specs.Factors.{AnswersFactor, AnswersSlowdown}
 use Rattle.factor.specs.declared.Slowdown.{Slowdown}
 
 -- the places of a placing's order; none after a no
@@ -245,7 +244,7 @@ AreTaskLines owners U order places i text =
 -- ---- all at once
 -- the greatest factor on all execution with which the order passes, where one is given
 abbrev pub AnswersFactorIn : List Task → Option (List ℕ) → Option ℕ → Type 0
-AnswersFactorIn U (Some order) own = AnswersFactorOf U order own
+AnswersFactorIn U (Some order) own = AnswersFactor U (Some order) own
 AnswersFactorIn U None own = own ≡ None
 
 -- that factor, the greatest with which some order passes, and the task that fails first past the latter; `-` where no
@@ -263,5 +262,5 @@ IsLast U order text =
     ((length U ≡ 0) × (text ≡ []))
     ⊎ ((0 < length U)
     × ((own : Option ℕ) × (found : Option Slowdown) × AnswersFactorIn U order own
-    × AnswersFactor U found
+    × AnswersSlowdown U found
     × (text ≡ factor_line U own found)))

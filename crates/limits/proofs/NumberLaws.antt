@@ -1,6 +1,6 @@
 -- What another value of a number does to a set.
 use Rattle.std.proofs.Common.{◌≡◌, ◌↔◌, ℕ, zero, suc, ◌+◌, ◌-◌, ◌<◌, ◌≤◌, inl, inr, min, max, List, [], ◌∷◌}
-use Rattle.std.proofs.Common.{Option, Some, None, length, slice_set, refl, ◌∙◌, ap, arith}
+use Rattle.std.proofs.Common.{length, slice_set, refl, ◌∙◌, ap, arith}
 use Rattle.std.specs.List.{AllZip}
 use Rattle.std.proofs.lemmas.Bool.{cases_lt}
 use Rattle.std.proofs.lemmas.List.{set-get_or}
@@ -10,7 +10,7 @@ use Rattle.task_sheet.proofs.TaskLaws.{valid_at}
 use Rattle.other_numbers.specs.Easier.{IsShorter, IsEasier, AreEasier}
 use Rattle.other_numbers.proofs.CostLaws.{AreEasier-placed}
 use Rattle.other_numbers.proofs.EasierLaws.{easier-by, jobs-rarer, shorter-refl, cheaper-refl}
-use Rattle.other_numbers.proofs.EasierLaws.{IsPassingOrder-easier, IsFeasible-easier}
+pub use Rattle.other_numbers.proofs.EasierLaws.{PassesIn-easier}
 use Rattle.limits.specs.declared.number.Number.{Number}
 use Rattle.limits.specs.declared.number.Number.TheVariants.{Cost, Period, Deadline, Jitter, Len}
 use Rattle.limits.specs.declared.number.Number.TheVariants.{InterruptCost, InterruptPeriod}
@@ -19,7 +19,7 @@ use Rattle.limits.specs.Numbers.{no_interrupt}
 use Rattle.limits.specs.Numbers.{section_at, moved, with_len, value_of, with_number, IsNoFurther}
 use Rattle.limits.specs.Numbers.{numbered}
 use Rattle.limits.specs.Numbers.{MayHave, IsFurthestFor, IsFurthest, IsSpan, at_distance, distance}
-use Rattle.limits.specs.InOrder.{IsFurthestIn, PassesIn}
+use Rattle.limits.specs.InOrder.{IsFurthestIn}
 use Rattle.limits.proofs.InterruptLaws.{cheaper-cost, cheaper-period, placed-read}
 use Rattle.limits.proofs.SpanLaws.{far-known}
 use Rattle.other_numbers.proofs.PlacedLaws.{IsNamesake}
@@ -77,11 +77,6 @@ pub AreEasier-numbered : (U : List Task) (i : ℕ) (number : Number) (low high :
     → AreEasier (numbered U i number low) (numbered U i number high)
 AreEasier-numbered U i number low high may le =
     AreEasier-placed U i _ _ (easier-number number (task_at U i) low high may le)
-
-pub PassesIn-easier : (order : Option (List ℕ)) → (V U : List Task) → AreEasier V U → PassesIn order U
-    → PassesIn order V
-PassesIn-easier (Some order) V U easy passes = IsPassingOrder-easier V U easy order passes
-PassesIn-easier None V U easy passes = IsFeasible-easier V U easy passes
 
 -- ---- with its own value a task is as it was
 moved-own : (xs : List CriticalSection) (along len : ℕ) → moved along len len xs ≡ xs

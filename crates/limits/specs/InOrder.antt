@@ -1,14 +1,10 @@
 -- For each number the furthest value with which a given order passes.
-use Rattle.std.specs.Prelude.{ℕ, List, Option, Some, None}
+use Rattle.std.specs.Prelude.{ℕ, List, Option}
 use Rattle.task_sheet.specs.Sheet.{Task}
-use Rattle.task_sheet.specs.Orders.{IsPassingOrder, IsFeasible}
+use Rattle.task_sheet.specs.Orders.{IsPassingOrder}
+pub use Rattle.other_numbers.specs.InOrder.{PassesIn}
 use Rattle.limits.specs.declared.number.Number.{Number}
 use Rattle.limits.specs.Numbers.{IsFurthestFor, NoneHelpsFor, AnswersFor}
-
--- this order passes, or some order where none is given
-abbrev pub PassesIn : Option (List ℕ) → List Task → Type 0
-PassesIn (Some order) U = IsPassingOrder U order
-PassesIn None U = IsFeasible U
 
 -- the furthest value with which the order passes as it stands, all else equal
 abbrev pub IsFurthestIn : List Task → List ℕ → ℕ → Number → ℕ → Type 0

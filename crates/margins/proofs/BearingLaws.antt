@@ -1,6 +1,6 @@
 -- Sets with other costs are alike, so that the order by limits passes where some order does.
 use Rattle.std.proofs.Common.{◌≡◌, ◌↔◌, ℕ, zero, suc, ◌<◌, inl, inr, List, [], ◌∷◌, length}
-use Rattle.std.proofs.Common.{get_or, refl, sym, ◌∙◌, ap, subst, arith}
+use Rattle.std.proofs.Common.{None, Some, get_or, refl, sym, ◌∙◌, ap, subst, arith}
 use Rattle.std.proofs.lemmas.Bool.{cases_eq}
 use Rattle.std.proofs.lemmas.List.{length-set, get_or_default}
 use Rattle.task_sheet.proofs.Common.{Task, IsValidSheet, AllTasks, no_task, task_at, IsTaskSet}
@@ -12,7 +12,7 @@ use Rattle.limits.specs.declared.number.Number.TheVariants.{Cost}
 use Rattle.limits.specs.Numbers.{numbered, MayHave, IsFurthest}
 use Rattle.limits.specs.InOrder.{IsFurthestIn}
 use Rattle.limits.proofs.NumberLaws.{in_order-within}
-use Rattle.factor.specs.Factors.{IsPassingAt, IsFeasibleAt, IsFactor}
+use Rattle.factor.specs.Factors.{IsFactor, PassesInAt}
 use Rattle.factor.proofs.AtLaws.{Slowed, slowed-eased}
 use Rattle.preferences.specs.Preferences.{IsByDeadlines}
 use Rattle.latest_first.specs.LatestFirst.{AllPrompt, AreAlike}
@@ -59,7 +59,7 @@ module _ (U V : List Task) (order : List ℕ) (preferred : IsByDeadlines U V)
             best.passing.each_once) (IsLatestFirst-alike V W are.alike order first),
       )
 
-  pub passes-slower : (factor : ℕ) → IsPassingAt factor V order ↔ IsFeasibleAt factor V
+  pub passes-slower : (factor : ℕ) → PassesInAt factor (Some order) V ↔ PassesInAt factor None V
   passes-slower factor = (
     λ passing. (order, passing),
     IsPassingBy-latest (Slowed factor) (slowed-eased factor) V (AllTasks-from_set V set) (AllPrompt-valid V set) order
@@ -67,8 +67,8 @@ module _ (U V : List Task) (order : List ℕ) (preferred : IsByDeadlines U V)
         (FollowLimits-preferred U V preferred) order best),
   )
 
-  pub passes-factor : (most : ℕ) → IsFactor V most → IsPassingAt most V order
-  passes-factor most is = (passes-slower most).1 is.is_so
+  pub passes-factor : (most : ℕ) → IsFactor V None most → PassesInAt most (Some order) V
+  passes-factor most is = (passes-slower most).1 is.passes
 
   pub passes-costed : (i cost : ℕ) → i < length V → MayHave V i Cost cost
       → IsPassingOrder (numbered V i Cost cost) order ↔ IsFeasible (numbered V i Cost cost)

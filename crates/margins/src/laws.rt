@@ -1,13 +1,13 @@
 //! Laws of sets by deadlines. Each is the clause of a function that does nothing, and its names are defined in `specs/`.
 
-ghost use Rattle.std.specs.Prelude.{◌≡◌, ◌<◌, ◌↔◌, ℕ, List, length};
+ghost use Rattle.std.specs.Prelude.{◌≡◌, ◌<◌, ◌↔◌, ℕ, List, None, Some, length};
 ghost use Rattle.task_sheet.specs.Sheet.{Task, AllTasks};
 ghost use Rattle.task_sheet.specs.TaskSet.{IsTaskSet};
 ghost use Rattle.task_sheet.specs.Orders.{IsOrder, IsPassingOrder, IsFeasible, IsBest};
 ghost use Rattle.limits.specs.declared.number.Number.TheVariants.{Cost};
 ghost use Rattle.limits.specs.Numbers.{numbered, MayHave, IsFurthest};
 ghost use Rattle.limits.specs.InOrder.{IsFurthestIn};
-ghost use Rattle.factor.specs.Factors.{IsPassingAt, IsFeasibleAt, IsFactor};
+ghost use Rattle.factor.specs.Factors.{IsFactor, PassesInAt};
 ghost use Rattle.margins.specs.Bearing.{Bears};
 ghost use Rattle.latest_first.specs.LatestFirst.{AllPrompt, IsLatestFirst};
 ghost use Rattle.preferences.specs.Preferences.{IsByDeadlines};
@@ -17,10 +17,10 @@ ghost use Rattle.preferences.specs.Preferences.{IsByDeadlines};
 pub fn preferred_is_greatest()
     ensures slower { (U V : List Task) (order : List ℕ) (factor : ℕ) → IsByDeadlines U V
         → IsTaskSet V
-        → IsBest V order → IsPassingAt factor V order ↔ IsFeasibleAt factor V }
+        → IsBest V order → PassesInAt factor (Some order) V ↔ PassesInAt factor None V }
     ensures factor { (U V : List Task) (order : List ℕ) (most : ℕ) → IsByDeadlines U V
         → IsTaskSet V
-        → IsBest V order → IsFactor V most → IsPassingAt most V order }
+        → IsBest V order → IsFactor V None most → PassesInAt most (Some order) V }
     ensures costed { (U V : List Task) (order : List ℕ) (i cost : ℕ) → IsByDeadlines U V
         → IsTaskSet V
         → IsBest V order → i < length V → MayHave V i Cost cost

@@ -1,6 +1,6 @@
 -- To ask less takes no order away, in each sense of less that sums, greatest values and fewer jobs keep.
 use Rattle.std.proofs.Common.{◌≡◌, ℕ, zero, suc, ◌+◌, ◌*◌, ◌<◌, ◌≤◌, Bool, true, false, cond, ◌&&◌, max}
-use Rattle.std.proofs.Common.{List, [], ◌∷◌, length, sum_by, refl, ◌∙◌, sym, ap, subst, arith}
+use Rattle.std.proofs.Common.{◌↔◌, List, [], ◌∷◌, length, sum_by, Option, Some, None, refl, ◌∙◌, sym, ap, subst, arith}
 use Rattle.std.proofs.Math.Nat.{mul-le-mul, mul-le-mul_left}
 use Rattle.std.proofs.Math.Path.{fun_ext}
 use Rattle.std.specs.Int.{div_ceil}
@@ -22,6 +22,7 @@ use Rattle.latest_first.proofs.LaterLimits.{PassesWhere, covers-eased}
 use Rattle.latest_first.proofs.OneOrder.{Covering, IsPassingBy-to, IsPassing-by}
 use Rattle.ceilings.specs.Holds.{longest_outside}
 use Rattle.other_numbers.specs.Easier.{IsShorter, IsCheaper, AreEasierBy, IsEasier, AreEasier}
+use Rattle.other_numbers.specs.InOrder.{PassesIn, PassesInBy}
 
 -- a sense of no more that these keep
 pub record IsKept (AtMost : ℕ → ℕ → Type 0) : Type 0 where
@@ -161,6 +162,20 @@ module _ (AtMost : ℕ → ℕ → Type 0) (kept : IsKept AtMost) where
       IsPassingBy-easier =
           IsPassingBy-to (PassesWhere Is U) (PassesWhere Other V) U V easy.count StandsBy-easier
 
+      pub PassesInBy-easier : (order : Option (List ℕ)) → PassesInBy (PassesWhere Is U) order U
+          → PassesInBy (PassesWhere Other V) order V
+      PassesInBy-easier (Some order) passes = IsPassingBy-easier order passes
+      PassesInBy-easier None (order, passing) = (order, IsPassingBy-easier order passing)
+
+-- the analysis is such a test
+pub PassesIn-by : (order : Option (List ℕ)) (U : List Task)
+    → PassesIn order U ↔ PassesInBy (PassesWhere Covering U) order U
+PassesIn-by (Some order) U = IsPassing-by U order
+PassesIn-by None U = (
+  λ (order, passing). (order, (IsPassing-by U order).0 passing),
+  λ (order, passing). (order, (IsPassing-by U order).1 passing),
+)
+
 -- ---- no number greater
 pub kept-le : IsKept ◌≤◌
 kept-le = record {
@@ -170,6 +185,11 @@ kept-le = record {
   jobs = λ n m a x fewer le. mul-le-mul fewer le;
 }
 
+pub PassesIn-easier : (order : Option (List ℕ)) (V U : List Task) → AreEasier V U → PassesIn order U
+    → PassesIn order V
+PassesIn-easier order V U easy passes = (PassesIn-by order V).1
+    (PassesInBy-easier ◌≤◌ kept-le V U easy Covering Covering covers-eased order ((PassesIn-by order U).0 passes))
+
 module _ (V U : List Task) (easy : AreEasier V U) where
   pub Passes-easier : (i : ℕ) (H : Indexes) → Passes U i H → Passes V i H
   Passes-easier = PassesWhere-easier ◌≤◌ kept-le V U easy Covering Covering covers-eased
@@ -178,12 +198,10 @@ module _ (V U : List Task) (easy : AreEasier V U) where
   Stands-easier = StandsBy-easier ◌≤◌ kept-le V U easy Covering Covering covers-eased
 
   pub IsPassingOrder-easier : (order : List ℕ) → IsPassingOrder U order → IsPassingOrder V order
-  IsPassingOrder-easier order passing = (IsPassing-by V order).1
-      (IsPassingBy-easier ◌≤◌ kept-le V U easy Covering Covering covers-eased order
-      ((IsPassing-by U order).0 passing))
+  IsPassingOrder-easier order = PassesIn-easier (Some order) V U easy
 
   pub IsFeasible-easier : IsFeasible U → IsFeasible V
-  IsFeasible-easier (order, passing) = (order, IsPassingOrder-easier order passing)
+  IsFeasible-easier = PassesIn-easier None V U easy
 
 -- ---- what asks no more
 pub jobs-rarer : (long short less more time : ℕ) → 0 < short → short ≤ long → less ≤ more

@@ -1,20 +1,16 @@
 use Rattle.std.proofs.Common.{◌≡◌, ◌↔◌, ℕ, ◌+◌, ◌≤◌, ◌∙◌, List, length, ap, subst, arith}
 use Rattle.std.proofs.lemmas.Bool.{both_ways}
-use Rattle.task_sheet.proofs.Common.{Task, indexes_of, without_index}
 use Rattle.task_sheet.proofs.MembersIndexes.{indexes_of-remove, len-remove_member}
-use Rattle.task_sheet.proofs.TaskLaws.{AllTasks-from_set}
-use Rattle.latest_first.proofs.OneOrder.{AllPrompt-valid, stands-latest}
-use Rattle.assignment.proofs.FeasibilityLaws.{IsLeading, IsLeading-start, IsLeading-remove, IsLeading-empty, obstructs-left}
-use Rattle.factor.specs.Factors.{PassesAt}
-use Rattle.factor.proofs.AtLaws.{Slowed, slowed-eased, IsPassingAt-short, obstructs-past}
+use Rattle.factor.proofs.AtLaws.{Task, AllTasks-from_set, indexes_of, without_index, IsLeading, IsLeading-start, IsLeading-remove}
+use Rattle.factor.proofs.AtLaws.{IsLeading-empty, obstructs-left, PassesAt, Slowed, slowed-eased, passing-short, obstructs-past, latest-fails}
 use Rattle.factor.proofs.factor.Goals as goal
 use Rattle.factor.proofs.factor.Goals.{then-most-found, else-most-found}
 
 pub loop-left-init : goal.loop-left-init
 loop-left-init c =
-    let lead : (f : ℕ) → IsLeading (PassesAt f c.args.set.now) c.args.set.now (indexes_of c.all-left.result) = λ f.
-    IsLeading-start _ c.args.set.now c.all-left.result _ c.all-left.ensures
-    (ap (λ (U : List Task). length U) c.sheets.ensures.same) in
+    let U = c.args.set.now in
+    let lead : (f : ℕ) → IsLeading (PassesAt f U) U (indexes_of c.all-left.result) = λ f. IsLeading-start (PassesAt f U) U
+    c.all-left.result _ c.all-left.ensures (ap (λ (V : List Task). length V) c.sheets.ensures.same) in
     record { part = (lead 0).part; leading = λ f le. lead f; fails = λ lt. absurd (omega (arith, lt)) }
 
 pub returns-in_err-task : goal.returns-in_err-task
@@ -25,46 +21,34 @@ returns-in_err-task c = rw c.from_residual.ensures (λ f some. obstructs-past c.
     (λ j here stands. c.in_err-task.ensures.none j (here, stands.1))))
 
 pub loop-left-smaller : goal.loop-left-smaller
-loop-left-smaller c = rw c.without-left.ensures
-    (len-remove_member c.loop-left.left c.in_ok-task.task c.in_ok-task.ensures.some.free.0)
+loop-left-smaller c =
+    rw c.without-left.ensures (len-remove_member c.loop-left.left _ c.in_ok-task.ensures.some.free.0)
 
 pub loop-left-preserved : goal.loop-left-preserved
 loop-left-preserved c =
     let U = c.args.set.now in
     let i = c.in_ok-task.task in
     let left = c.loop-left.left in
-    let L = indexes_of left in
     let own = c.most_below-most.result in
-    let inv = c.loop-left.invariant in
+    let leading = c.loop-left.invariant.leading in
     let is = c.in_ok-task.ensures.first in
-    let best : (f : ℕ) → (f ≤ own) ↔ (f ≤ c.loop-left.found.most) × PassesAt f U i (without_index L i) =
+    let best : (f : ℕ) → (f ≤ own) ↔ (f ≤ c.loop-left.found.most) × PassesAt f U i (without_index (indexes_of left) i) =
     subst (λ X. (f : ℕ) → (f ≤ own) ↔ (f ≤ c.loop-left.found.most) × PassesAt f U i X)
-    (ap indexes_of c.without.ensures ∙ indexes_of-remove left i) c.most_below-most.ensures.decides in
+    (ap indexes_of c.without.ensures ∙ indexes_of-remove left i) c.most_below-most.ensures in
     let lead : (f : ℕ) → f ≤ own → IsLeading (PassesAt f U) U (indexes_of c.without-left.result) = λ f le.
     IsLeading-remove (Slowed f) (slowed-eased f) U (AllTasks-from_set U c.sheets.ensures.kept) left _ i
-    (inv.leading f ((best f).0 le).0) c.without-left.ensures is.latest.free.0 (((best f).0 le).1, is.latest.free.1) in
+    (leading f ((best f).0 le).0) c.without-left.ensures is.latest.free.0 (((best f).0 le).1, is.latest.free.1) in
     record {
       part = (lead 0 (omega arith)).part;
       leading = lead;
       fails = λ lt. elim c.if-most-found.branch [
         | then-most-found w ↦
-            let next = inv.leading (own + 1) (omega (arith, w.if-most-found.true)) in
-            rw w.last-is (
-              L,
-              record {
-                obstruction = obstructs-left (PassesAt (own + 1) U) U left inv.part
-                    (λ none. both_ways _ c.loop-left-test.true (c.is_empty.ensures.1 none))
-                    (λ j here stands.
-                    let passes = (stands-latest (Slowed (own + 1)) (slowed-eased (own + 1)) U
-                    (AllPrompt-valid U c.sheets.ensures.kept) L i j inv.part is.latest here stands).0 in
-                    omega (arith, (best (own + 1)).1 (omega (arith, w.if-most-found.true), passes)));
-                greatest = next.holds;
-              },
-              is,
-            )
+            let next : own + 1 ≤ c.loop-left.found.most = omega (arith, w.if-most-found.true) in
+            rw w.last-is (latest-fails U c.sheets.ensures.kept (own + 1) (indexes_of left) i (leading (own + 1) next) is
+            (λ passes. omega (arith, (best (own + 1)).1 (next, passes))))
         | else-most-found w ↦
             let same : own ≡ c.loop-left.found.most = omega (arith, ((best own).0 (omega arith)).0, w.if-most-found.false) in
-            rw (w.last-is, same) (inv.fails (omega arith))
+            rw (w.last-is, same) (c.loop-left.invariant.fails (omega arith))
       ];
     }
 
@@ -76,15 +60,14 @@ returns-then-found-eq0 c = λ f some.
 pub returns : goal.returns
 returns c =
     let U = c.args.set.now in
-    let most = c.loop-left.found.most in
-    let feasible = IsLeading-empty _ U c.loop-left.left (c.loop-left.invariant.leading most (omega arith))
+    let inv = c.loop-left.invariant in
+    let passes = IsLeading-empty _ U c.loop-left.left (inv.leading c.loop-left.found.most (omega arith))
     (c.is_empty.ensures.0 c.loop-left-test.false) in
-    let fails = c.loop-left.invariant.fails
-    (IsPassingAt-short U c.sheets.ensures.kept most feasible.0 c.requires feasible.1) in (
+    let fails = inv.fails (passing-short U c.sheets.ensures.kept _ passes.0 c.requires passes.1) in (
       record {
         some = omega (arith, c.if-found-eq0.false);
-        is_so = feasible;
-        greatest = λ f lt. obstructs-past U c.sheets.ensures.kept (most + 1) f (omega (arith, lt)) fails.0 fails.1.obstruction;
+        passes = passes;
+        greatest = λ f lt. obstructs-past U c.sheets.ensures.kept _ f (omega (arith, lt)) fails.0 fails.1.obstruction;
       },
       fails,
     )

@@ -1,9 +1,6 @@
 use Rattle.std.proofs.Common.{ℕ, ◌+◌, ◌<◌, ◌≤◌}
 use Rattle.std.specs.FinSet as members
-use Rattle.task_sheet.proofs.Common.{indexes_of, IsPart, all_of}
-use Rattle.assignment.proofs.FeasibilityLaws.{IsLeading}
-use Rattle.factor.specs.Factors.{PassesAt}
-use Rattle.factor.specs.Failing.{FailsFirst}
+use Rattle.factor.proofs.AtLaws.{FailsFirst, IsLeading, IsPart, PassesAt, all_of, indexes_of}
 use Rattle.factor.proofs.factor.Given as goal
 
 abbrev pub invariant-loop-left : goal.invariant-loop-left

@@ -1,5 +1,4 @@
-use Rattle.latest_first.proofs.OneOrder.{IsPassingBy-latest}
-use Rattle.factor.proofs.AtLaws.{Slowed, slowed-eased}
+use Rattle.factor.proofs.AtLaws.{IsPassingBy-latest, Slowed, slowed-eased}
 use Rattle.factor.proofs.laws.latest_first_decides_at.Goals as goal
 
 pub returns : goal.returns

@@ -4,17 +4,17 @@ use Rattle.std.proofs.lemmas.Bool.{cases_lt}
 use Rattle.task_sheet.proofs.Common.{indexes_of, demand_of}
 use Rattle.task_sheet.proofs.DemandLaws.{demand-mono}
 use Rattle.task_sheet.proofs.TaskLaws.{AllTasks-from_set}
-use Rattle.factor.proofs.AtLaws.{Slowed, slowed-less, PassesWhere-turned, demand-some}
-use Rattle.factor.proofs.most.most_below.Goals as goal
-use Rattle.factor.proofs.most.most_below.Goals.{then-loop-most-test+else-time-limit, else-loop-most-test}
+use Rattle.factor.proofs.AtLaws.{passes-less, demand-some}
+use Rattle.factor.proofs.most_below.Goals as goal
+use Rattle.factor.proofs.most_below.Goals.{then-loop-most-test+else-time-limit, else-loop-most-test}
 
 pub covered-most-requires-clause-need : goal.covered-most-requires-clause-need
-covered-most-requires-clause-need c = rw c.demand.ensures
-    (demand-some c.args.set.now c.sheets.ensures.kept c.args.task _ _ c.requires)
+covered-most-requires-clause-need c =
+    rw c.demand.ensures (demand-some c.args.set.now c.sheets.ensures.kept c.args.task _ _ c.requires)
 
 pub covered-requires-clause-need : goal.covered-requires-clause-need
-covered-requires-clause-need c = rw c.demand-need.ensures
-    (demand-some c.args.set.now c.sheets.ensures.kept c.args.task _ _ c.requires)
+covered-requires-clause-need c =
+    rw c.demand-need.ensures (demand-some c.args.set.now c.sheets.ensures.kept c.args.task _ _ c.requires)
 
 pub loop-most-preserved : goal.loop-most-preserved
 loop-most-preserved c =
@@ -54,22 +54,18 @@ loop-most-preserved c =
       short = omega (arith, inv.short, c.covered.ensures.short, c.max-most.ensures);
     }
 
-pub returns-clause-decides : goal.returns-clause-decides
-returns-clause-decides c = λ f.
+pub returns : goal.returns
+returns c = λ f.
     let inv = c.loop-most.invariant in (
       λ le. (
         omega (arith, le, c.min.ensures),
-        PassesWhere-turned (Slowed c.loop-most.most) (Slowed f)
-            (slowed-less f c.loop-most.most (omega (arith, le, c.min.ensures))) c.args.set.now c.args.task _ inv.passes,
+        passes-less c.args.set.now f c.loop-most.most (omega (arith, le, c.min.ensures)) c.args.task _ inv.passes,
       ),
       λ (within, (t, positive, to, covered)). elim (cases_lt c.loop-most.most f) [
         | inr ge ↦ omega (arith, ge, within, c.min.ensures)
         | inl lt ↦ elim c.loop-most-test.branch [
-          | then-loop-most-test+else-time-limit w ↦ omega (
-            arith,
-            covered,
-            inv.fails f t lt positive (omega (arith, to, inv.limit, w.if-time-limit.false)),
-          )
+          | then-loop-most-test+else-time-limit w ↦
+              omega (arith, covered, inv.fails f t lt positive (omega (arith, to, inv.limit, w.if-time-limit.false)))
           | else-loop-most-test w ↦ omega (arith, lt, within, w.loop-most-test.false)
         ]
       ],

@@ -1,7 +1,7 @@
 use Rattle.std.proofs.Common.{◌≡◌, ◌+◌, ◌-◌, ◌*◌, ◌≤◌, ◌<◌, ℕ}
 use Rattle.task_sheet.proofs.Common.{task_at, indexes_of, demand_of, limit_of}
 use Rattle.factor.specs.Factors.{PassesAt}
-use Rattle.factor.proofs.most.most_below.Given as goal
+use Rattle.factor.proofs.most_below.Given as goal
 
 abbrev pub invariant-loop-most : goal.invariant-loop-most
 invariant-loop-most l = record {
