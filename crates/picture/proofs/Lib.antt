@@ -1,3 +1,4 @@
 mod Documents
+mod Puts
 mod Quiet
 mod RowsBeside

@@ -17,8 +17,8 @@ loop-n-init c =
 
 pub loop-n-preserved : goal.loop-n-preserved
 loop-n-preserved c =
-    each_next (nth_wait_text (scene_of c.args.chart.now) c.args.stay c.args.spot) c.loop-n.n
-    c.loop-n.invariant c.in_ok-put_nth_wait.ensures
+    each_next _ _ _ (nth_wait_text (scene_of c.args.chart.now) c.args.stay c.args.spot)
+    c.loop-n.n c.loop-n.invariant c.in_ok-put_nth_wait.ensures
 
 pub returns-then-is_behind : goal.returns-then-is_behind
 returns-then-is_behind c =

@@ -1,0 +1,9 @@
+use Rattle.picture.proofs.sides.put_pair.Goals as goal
+
+pub returns : goal.returns
+returns c = rw (
+  c.top_of-upper.ensures.value,
+  c.top_of-lower.ensures.value,
+  c.start_of-left.ensures,
+  c.end_of-end.ensures.value,
+) at c.write.ensures.bytes
