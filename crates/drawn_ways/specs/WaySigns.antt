@@ -23,3 +23,7 @@ signs_text writes ways =
     ++ sign_of ways (codes "<path class=\"ya yw\"") (codes "<path class=\"yb yw\"") WAITS.now
     ++ sign_text ways (codes "<path class=\"ya ys\"") STANDS.now
     ++ sign_text ways (codes "<path class=\"yb") NEXT.now
+
+-- ways, with what the signs in them mean
+abbrev pub signed : Writes → (ways : List ℕ) → List ℕ
+signed writes ways = ways ++ signs_text writes ways

@@ -1,5 +1,5 @@
 -- What is drawn of a chain in the picture of a run, and where it stands in the document.
-use Rattle.std.specs.Prelude.{ℕ, ◌+◌, ◌-◌, ◌*◌, ◌/◌, min, max, Bool, nat_lt, if◌then◌else◌, List, [], ◌∷◌, ◌++◌, codes, take, length, Option, Some, None}
+use Rattle.std.specs.Prelude.{ℕ, ◌+◌, ◌-◌, ◌*◌, ◌/◌, min, max, nat_lt, if◌then◌else◌, List, [], ◌∷◌, ◌++◌, codes, take, length, Option, Some, None}
 use Rattle.std.specs.Fmt.{decimal}
 use Rattle.std.specs.List.{concat}
 use Rattle.std.specs.Option.{option_map}
@@ -16,7 +16,7 @@ use Rattle.drawn_ways.specs.Sources.{outputs_in}
 use Rattle.drawn_ways.specs.Stands.{age_of, oldest}
 use Rattle.drawn_ways.specs.Stops.{stops_of}
 use Rattle.drawn_ways.specs.WayMarks.{along_text, stops_text}
-use Rattle.drawn_ways.specs.WaySigns.{signs_text}
+use Rattle.drawn_ways.specs.WaySigns.{signed}
 use Rattle.drawn_ways.specs.declared.legs.Leg.{Leg}
 use Rattle.drawn_ways.specs.declared.marks.Ink.TheVariants.{Standing, Next}
 use Rattle.drawn_ways.specs.declared.stands.Stand.{Stand}
@@ -54,9 +54,9 @@ ground_of g = record {
 
 -- ---- how old it gets
 -- a time in the picture's unit, or `-` where there is none
-abbrev pub told_time : (millis : Bool) → Option ℕ → List ℕ
-told_time millis None = codes "-"
-told_time millis (Some time) = time_text millis time ++ unit_text millis
+abbrev pub told_time : Frame → Option ℕ → List ℕ
+told_time f None = codes "-"
+told_time f (Some time) = time_text (in_millis f) time ++ unit_text (in_millis f)
 
 -- half of the room that a chain's name and an age take
 abbrev pub half_room : (chain : List ℕ) → ℕ
@@ -73,7 +73,7 @@ abbrev pub age_text : Frame → (chain : List ℕ) → Stop → (age : ℕ) → 
 age_text f chain s age =
     if sees f s.start s.stop
     then concat (codes "<text class=\"yt\" x=\"" ∷ decimal (age_x f chain s) ∷ codes "\" y=\""
-    ∷ decimal (top_of s.k + 140) ∷ codes "\">" ∷ chain ∷ codes " " ∷ told_time (in_millis f) (Some age)
+    ∷ decimal (top_of s.k + 140) ∷ codes "\">" ∷ chain ∷ codes " " ∷ told_time f (Some age)
     ∷ codes "</text>\n" ∷ [])
     else []
 
@@ -117,16 +117,12 @@ abbrev pub ways_of : GroundData → WayData → Option Stand → List ℕ
 ways_of g w None = []
 ways_of g w (Some s) = ways_text g w s
 
--- ways, with what the signs in them mean
-abbrev pub signed : Writes → (ways : List ℕ) → List ℕ
-signed writes ways = ways ++ signs_text writes ways
-
 -- ---- all
 -- the chain, the greatest age in the window, and the bound, below the rows
 abbrev pub chain_line : GroundData → WayData → (age : Option ℕ) → List ℕ
 chain_line g w age =
     concat (codes "<text x=\"100\" y=\"" ∷ decimal (top_of (length g.shown) + 95) ∷ codes "\">chain "
-    ∷ w.name ∷ codes ": age " ∷ told_time (in_millis g.frame) age ∷ codes " of bound " ∷ told_time (in_millis g.frame) w.bound
+    ∷ w.name ∷ codes ": age " ∷ told_time g.frame age ∷ codes " of bound " ∷ told_time g.frame w.bound
     ∷ codes "</text>\n" ∷ [])
 
 abbrev pub drawn_of : GroundData → WayData → Option Stand → List ℕ

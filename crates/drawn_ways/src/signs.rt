@@ -1,6 +1,6 @@
 //! What the signs of a way mean: each stands where the ways have what it stands for.
 ghost use Rattle.std.specs.Prelude.{◌≡◌, ◌++◌, OnOk, string_bytes};
-ghost use Rattle.drawn_ways.specs.WaySigns.{reads_sign, signs_text, writes_sign};
+ghost use Rattle.drawn_ways.specs.WaySigns.{reads_sign, signed, signs_text, writes_sign};
 
 use chains::Writes;
 use frames::{put_sign, put_sign_of};
@@ -65,7 +65,7 @@ fn writes_sign(writes: Writes) -> &'static str
 }
 
 // Puts the signs that some ways have.
-pub(crate) fn put_signs(writes: Writes, ways: &str, text: &mut String) -> Result<(), AllocError>
+fn put_signs(writes: Writes, ways: &str, text: &mut String) -> Result<(), AllocError>
     ensures { OnOk result (string_bytes text.new ≡ string_bytes text.old
         ++ signs_text writes ways.now) }
 {
@@ -87,4 +87,12 @@ pub(crate) fn put_signs(writes: Writes, ways: &str, text: &mut String) -> Result
     )?;
     put_sign(ways, "<path class=\"ya ys\"", STANDS, text)?;
     put_sign(ways, "<path class=\"yb", NEXT, text)
+}
+
+// Puts ways, and the signs that they have.
+pub(crate) fn put_signed(writes: Writes, ways: &str, text: &mut String) -> Result<(), AllocError>
+    ensures { OnOk result (string_bytes text.new ≡ string_bytes text.old ++ signed writes ways.now) }
+{
+    text.push_str(ways)?;
+    put_signs(writes, ways, text)
 }

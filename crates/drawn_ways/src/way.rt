@@ -7,7 +7,7 @@ ghost use Rattle.drawn_ways.specs.WayTexts.{age_text, age_x, chain_line, drawn_o
 use crate::ground::Ground;
 use crate::legs::{Leg, path_at};
 use crate::marks::{Ink, put_along, put_stops};
-use crate::signs::put_signs;
+use crate::signs::put_signed;
 use crate::sources::{outputs_in, source_of};
 use crate::stands::{Stand, age_of, oldest};
 use crate::stops::{Stop, stops_of};
@@ -29,25 +29,23 @@ pub struct Way<'a> {
     pub bound: Option<u64>,
 }
 
-// A time in the picture's unit, shown as `-` where there is none.
-#[derive(Clone, Copy)]
+// A time, shown in a picture's unit, or as `-` where there is none.
+#[derive(Drop)]
 struct Told {
-    millis: bool,
+    frame: Frame,
     time: Option<u64>,
 }
 
 impl fmt::Display for Told {
-    ghost output = { λ told. Some (told_time told.millis told.time) };
+    ghost output = { λ told. Some (told_time told.frame told.time) };
 
     fn fmt<W: fmt::Write>(&self, f: &mut fmt::Formatter<W>) -> fmt::Result {
-        let (millis, unit) = (self.millis, unit_of(self.millis));
-        match self.time {
-            None => f.write_str("-"),
-            Some(micros) => {
-                let time = ShownTime { millis, micros };
-                write!(f, "{time}{unit}")
-            }
-        }
+        let Some(micros) = self.time else {
+            return f.write_str("-");
+        };
+        let millis = in_millis(self.frame);
+        let (time, unit) = (ShownTime { millis, micros }, unit_of(millis));
+        write!(f, "{time}{unit}")
     }
 }
 
@@ -74,21 +72,19 @@ fn put_age(
     frame: Frame,
     chain: Name,
     line: &Stop,
-    age: u64,
+    stand: Stand,
     text: &mut String,
 ) -> Result<(), AllocError>
     requires { line.now.k ≤ PLACES_LIMIT }
     ensures { OnOk result (string_bytes text.new ≡ string_bytes text.old
-        ++ age_text frame chain line.now age) }
+        ++ age_text frame chain line.now (age_of stand)) }
 {
     if !sees(frame, line.start, line.stop) {
         return Ok(());
     }
     let (x, y) = (age_x(frame, chain, line), top_of(line.k) + 140);
-    let age = Told {
-        millis: in_millis(frame),
-        time: Some(age),
-    };
+    let time = Some(age_of(stand));
+    let age = Told { frame, time };
     write!(
         text,
         "<text class=\"yt\" x=\"{x}\" y=\"{y}\">{chain} {age}</text>\n"
@@ -122,7 +118,7 @@ fn put_stay(
         &stay,
         text,
     )?;
-    put_age(frame, chain, &stay, age_of(stand), text)
+    put_age(frame, chain, &stay, stand, text)
 }
 
 // The same by the jobs of its path, of which the last stands first.
@@ -230,9 +226,12 @@ fn put_chain_line(
         ++ chain_line (ground_of ground.now) (way_of way.now) age) }
 {
     let y = top_of(ground.shown.len()) + 95;
-    let (name, time) = (way.name, way.bound);
-    let millis = in_millis(ground.frame);
-    let (age, bound) = (Told { millis, time: age }, Told { millis, time });
+    let (name, frame) = (way.name, ground.frame);
+    let age = Told { frame, time: age };
+    let bound = Told {
+        frame,
+        time: way.bound,
+    };
     write!(
         text,
         "<text x=\"100\" y=\"{y}\">chain {name}: age {age} of bound {bound}</text>\n"
@@ -262,8 +261,7 @@ fn drawn_of(
     let ways = ways_of(alloc, ground, way, stand)?;
     let mut text = String::new(alloc);
     text.push_str(STYLE)?;
-    text.push_str(ways.as_str())?;
-    put_signs(way.writes, ways.as_str(), &mut text)?;
+    put_signed(way.writes, ways.as_str(), &mut text)?;
     put_chain_line(ground, way, age_if(stand), &mut text)?;
     Ok(text)
 }
