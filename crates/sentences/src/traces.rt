@@ -33,7 +33,8 @@ pub fn of_trace(alloc: Global, bytes: &[u8], fault: TraceFault) -> Option<String
             );
         }
         TraceFault::NoJob { line } => {
-            let wrong = " lies in no job of its task, between its arrival and its finish";
+            let wrong =
+                " lies in no job of its task, between its arrival and its finish; a slice ends with its job";
             tell_line(&mut told, bytes, line, wrong);
         }
         TraceFault::OutOfMemory => told.give_up(),
