@@ -79,7 +79,6 @@ fn put_slice(
 }
 
 /// Puts each slice into its row, by time. The ticks that each job has executed are counted; none were before.
-#[tactic(auto, using(frames::proofs::Eachs::each_init, frames::proofs::Eachs::each_next))]
 pub fn put_slices(
     chart: &Chart<'_>,
     executed: &mut [u64],

@@ -1,11 +1,10 @@
 //! Jobs, from their arrivals up to their bounds.
 ghost use Rattle.std.specs.Prelude.{◌+◌, ◌++◌, ◌<◌, ◌≡◌, ◌≤◌, OnOk, length, string_bytes};
-ghost use Rattle.frames.specs.Boxes.{box_path};
-ghost use Rattle.frames.specs.Frame.{right_of, x_of};
+ghost use Rattle.frames.specs.Frame.{right_of, top_of, x_of};
 ghost use Rattle.frames.specs.declared.frame.TheConstants.{RIGHTMOST};
 ghost use Rattle.frames.specs.PictureRows.{on_spot, record_at};
 ghost use Rattle.drawn_jobs.specs.Bands.{jobs_text, place_text};
-ghost use Rattle.drawn_jobs.specs.Jobs.{goes_back, goes_on, job_signs, job_text, job_words, limit_of, limit_path, sign_text, signs_text, unrun_text};
+ghost use Rattle.drawn_jobs.specs.Jobs.{goes_back, goes_on, job_signs, job_text, job_words, limit_of, sign_text, signs_text, unrun_text};
 
 use crate::band::put_place;
 use ceiling_kernel::JobRecord;
@@ -59,11 +58,10 @@ pub(crate) fn put_told(job: &JobRecord, text: &mut String) -> Result<(), AllocEr
 
 // A box from an arrival up to the bound or deadline of a job that arrives then or later.
 pub(crate) fn limit_box(lane: &Lane<'_>, first: u64, latest: u64) -> Bar
-    ensures path { box_path result.x result.right result.y result.high ≡ limit_path lane.now.frame
-        lane.now.spot.k
-        lane.now.row.now first latest }
     ensures x { result.x ≡ x_of lane.now.frame first }
     ensures right { result.right ≡ right_of lane.now.frame first (latest + limit_of lane.now.row.now) }
+    ensures y { result.y ≡ top_of lane.now.spot.k + 165 }
+    ensures high { result.high ≡ 180 }
     ensures within { result.x ≤ RIGHTMOST }
 {
     let right = x_after(lane.frame, latest, limit_of(lane.row));

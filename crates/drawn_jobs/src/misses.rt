@@ -195,7 +195,6 @@ fn put_miss(
 }
 
 // Those of a row.
-#[tactic(auto, using(frames::proofs::Eachs::each_init, frames::proofs::Eachs::each_next))]
 fn put_row_misses(lane: &Lane<'_>, jobs: &[JobRecord], text: &mut String) -> Result<(), AllocError>
     ensures { OnOk result (string_bytes text.new ≡ string_bytes text.old
         ++ row_misses lane.now.frame jobs.now lane.now.spot.k lane.now.row.now) }
