@@ -119,7 +119,7 @@ fn put_change_sign(
     put_response(job, text)?;
     text.push_str(", before ")?;
     put_response(old, text)?;
-    text.push_str("</title></path>\n")
+    writeln!(text, "</title></path>")
 }
 
 // The same where the response is another, and its end is in the window.

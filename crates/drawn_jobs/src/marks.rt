@@ -141,7 +141,7 @@ fn put_marks(
     for i in 0..chart.releases.len() {
         put_mark_alone(chart, mark, i, text)?;
     }
-    text.push_str("\"/>\n")
+    writeln!(text, "\"/>")
 }
 
 /// Puts the marks of all kinds.

@@ -76,7 +76,7 @@ fn put_label(
     let y = top_of(k) + label_depth(several);
     write!(text, "<text class=\"{class}\" x=\"{middle}\" y=\"{y}\">")?;
     put_names(names, text)?;
-    text.push_str("</text>\n")
+    writeln!(text, "</text>")
 }
 
 // The box of a part in which a job holds locks.

@@ -160,5 +160,5 @@ pub fn put_locks_group(
     text.push_str("<g id=\"k\">\n")?;
     put_locks_head(bottom, locks.len(), text)?;
     put_lock_texts(frame, bottom, locks, text)?;
-    text.push_str("</g>\n")
+    writeln!(text, "</g>")
 }

@@ -12,4 +12,4 @@ returns c = simp (
   c.top_of.ensures.value,
   c.response_word-word.ensures,
   append_assoc,
-) at c.push_str-2.ensures.bytes
+) at c.writeln.ensures.bytes

@@ -7,4 +7,4 @@ returns c =
     omega (arith, c.loop-i.auto.i-end, c.loop-i-test.false) in
     let marks = rw all at c.loop-i.invariant in
     simp append_assoc (simp (marks, c.in_ok-write.ensures.bytes, append_assoc)
-    at c.push_str.ensures.bytes)
+    at c.writeln.ensures.bytes)

@@ -10,4 +10,4 @@ returns c = rw (← c.saturating_sub.ensures, sym c.fits.ensures ∙ c.if-not-fi
   c.label_depth.ensures.value,
   c.are_several-several.ensures,
   append_assoc,
-) at c.push_str.ensures.bytes)
+) at c.writeln.ensures.bytes)

@@ -8,4 +8,4 @@ returns c = simp append_assoc (simp (
   c.in_ok-push_str.ensures.bytes,
   c.top_of-bottom.ensures.value,
   append_assoc,
-) at c.push_str-2.ensures.bytes)
+) at c.writeln.ensures.bytes)
