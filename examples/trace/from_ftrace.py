@@ -30,9 +30,11 @@ What it takes for what:
 - A waking by a thread that executes is the end of a wait inside a job, as for a lock; so is each waking of a thread
   that waited without letting signals in (state D). Where the record has neither flags nor events of timers, or doesn't
   show who executes, a waking while another thread executes is taken as an arrival, with a note.
-- A waking of the thread that executes is its next arrival: its last job overran.
+- A waking of the thread that executes is its next arrival: its last job overran. Where it waits for a time that is past
+  there is no waking, as a rule: both jobs are one then, with the cost of both.
 - A job has finished when its thread last fell asleep before its next arrival, or before the end of the record.
-- What a thread executes before its first arrival is of no job that is known: its name has `-before` behind it.
+- What a thread executes before its first arrival is of no job that is known: its name has `-before` behind it. A job
+  that waits for it is told that it waits for another thread: begin a record while nobody executes.
 - The time of interrupts whose entry and exit are recorded is of `irq-NAME` or `softirq-NAME`; that of others stands
   for the thread that they interrupt, and what a switch takes for the thread before.
 - What the record has, who executes on a processor before its first switch and in which interrupt is known from the
