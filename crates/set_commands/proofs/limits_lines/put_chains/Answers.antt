@@ -17,8 +17,8 @@ pub loop-place-preserved : goal.loop-place-preserved
 loop-place-preserved g c =
     let said = c.loop-place.invariant.said in
     let listing = c.args.listing.now in
-    let read = get_or_read listing.chains.now c.loop-place.place c.index-chains-place.result
-    c.loop-place-test.true c.index-chains-place.is no_chain in
+    let read = get_or_read listing.chains.now c.loop-place.place c.index-listing-place.result
+    c.loop-place-test.true c.index-listing-place.is no_chain in
     let line : List ℕ = string_bytes c.in-Ok.text in
     let before = append_known (g.W.Write.contents c.args.output.now.inner) c.args.held.now in
     let between = append_known (g.W.Write.contents c.loop-place.output.inner) c.loop-place.held in
@@ -35,7 +35,7 @@ loop-place-preserved g c =
           line,
           said.1,
           subst (λ x. AreChainLines listing.owners.now x listing.set (order_listed listing) (places_listed listing)
-              None line) read c.in-Ok.ensures,
+              None line) (sym c.index-listing-place.is ∙ read) c.in-Ok.ensures,
           refl,
         ),
         Appends-trans before between after said.0 line said.2 wrote,
