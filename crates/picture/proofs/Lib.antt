@@ -1,4 +1,4 @@
 mod Documents
-mod Puts
+mod Pushed
 mod Quiet
 mod RowsBeside

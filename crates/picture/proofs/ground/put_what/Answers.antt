@@ -1,9 +1,8 @@
-use Rattle.picture.proofs.Puts.{push_last, put_next}
+use Rattle.std.proofs.Common.{append_assoc}
+use Rattle.std.proofs.lemmas.Result.{on_ok_weaker}
+use Rattle.picture.proofs.Pushed.{pushed}
 use Rattle.picture.proofs.ground.put_what.Goals as goal
 
 pub returns : goal.returns
-returns c =
-    let run = rw (c.unit_of-unit.ensures, c.in_millis-millis.ensures) at c.in_ok-write.ensures.bytes in
-    let window = rw c.in_millis-millis.ensures at c.in_ok-put_window.ensures in
-    push_last c.push_str.result (put_next (put_next run c.in_ok-put_unrun.ensures) window)
-    c.push_str.ensures.bytes
+returns c = on_ok_weaker c.push_str.result (λ e. simp (e, c.in_ok-put_window.ensures, c.in_ok-put_unrun.ensures, c.in_ok-write.ensures.bytes, c.unit_of-unit.ensures, c.in_millis-millis.ensures, append_assoc))
+    (pushed c.push_str.result _ _ _ c.push_str.ensures.bytes)

@@ -1,0 +1,8 @@
+use Rattle.std.proofs.Common.{append_assoc}
+use Rattle.std.proofs.lemmas.Result.{on_ok_weaker}
+use Rattle.picture.proofs.Pushed.{pushed}
+use Rattle.picture.proofs.sides.put_margins_beside.Goals as goal
+
+pub returns : goal.returns
+returns c = on_ok_weaker c.push_str.result (λ e. simp (e, c.in_ok-put_margin_side-2.ensures, c.in_ok-put_margin_side.ensures, c.in_ok-write.ensures.bytes, c.unit_of-unit.ensures, c.in_millis.ensures, append_assoc))
+    (pushed c.push_str.result _ _ _ c.push_str.ensures.bytes)
