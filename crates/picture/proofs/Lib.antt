@@ -1,4 +1,3 @@
 mod Documents
-mod Pushed
 mod Quiet
 mod RowsBeside

@@ -93,7 +93,7 @@ fn put_head(chart: &Chart<'_>, locks: usize, text: &mut String) -> Result<(), Al
         "\" viewBox=\"0 0 {wide} {high}\">\n<title>tasks: {rows}, jobs: {jobs}, until {until} us"
     )?;
     put_title_tail(chart.title, text)?;
-    text.push_str("</title>\n")
+    writeln!(text, "</title>")
 }
 
 // A line down through the rows, and its time.
@@ -265,7 +265,7 @@ fn put_what(
     )?;
     put_unrun(rows, text)?;
     put_window(millis, frame, text)?;
-    text.push_str("</text>\n")
+    writeln!(text, "</text>")
 }
 
 // What stands still: how the elements look, whether a deadline is missed, what is drawn, the scale, the lines of the lane

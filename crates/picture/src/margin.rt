@@ -68,7 +68,7 @@ fn put_row_name(
     let bound = Known(lane.row.bound);
     write!(text, ", bound: {bound} us</title>{name}")?;
     put_number(level_of(lane.frame, lane.spot.rank), lane.row.number, text)?;
-    text.push_str("</text>\n")
+    writeln!(text, "</text>")
 }
 
 // A bound, if there is one, up to the deadline behind it.
@@ -137,7 +137,7 @@ fn put_missed_line(
         "<text class=\"qn\" x=\"500\" y=\"{y}\">missed: {missed}"
     )?;
     put_late(in_millis(lane.frame), late, text)?;
-    text.push_str("</text>\n")
+    writeln!(text, "</text>")
 }
 
 // A row's part of the margin.
@@ -192,5 +192,5 @@ pub(crate) fn put_group(chart: &Chart<'_>, text: &mut String) -> Result<(), Allo
     )?;
     put_lane_head(chart, text)?;
     put_margins(chart, text)?;
-    text.push_str("</g>\n")
+    writeln!(text, "</g>")
 }

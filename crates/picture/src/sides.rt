@@ -125,7 +125,7 @@ fn put_verdict(
     put_missed(new, text)?;
     let before = 20 + missed_letters(old) + missed_letters(new);
     put_title_in(title, letters_behind(frame, before), text)?;
-    text.push_str("</text>\n")
+    writeln!(text, "</text>")
 }
 
 // That the bounds of one of them count what the run lacks.
@@ -170,7 +170,7 @@ fn put_what(
     write!(text, ", responses changed: {changed}")?;
     put_unrun_beside(old.rows, new.rows, text)?;
     put_window(millis, later_of(old.frame, new.frame), text)?;
-    text.push_str("</text>\n")
+    writeln!(text, "</text>")
 }
 
 // The line above the two rows of a task, and the lines of both, below their bars.
@@ -262,7 +262,7 @@ fn put_margins_beside(old: &Chart<'_>, new: &Chart<'_>, text: &mut String) -> Re
     )?;
     put_margin_side(old, "before", text)?;
     put_margin_side(new, "after", text)?;
-    text.push_str("</g>\n")
+    writeln!(text, "</g>")
 }
 
 // How the elements look, in a picture of two runs.

@@ -1,7 +1,11 @@
-use Rattle.std.proofs.Common.{append_assoc}
-use Rattle.std.proofs.lemmas.Result.{on_ok_weaker}
+use Rattle.std.proofs.Common.{string_bytes}
+use Rattle.frames.proofs.Puts.{put_both, put_last}
 use Rattle.picture.proofs.margin.put_margin.Goals as goal
 
 pub returns : goal.returns
-returns c = on_ok_weaker c.put_missed_line.result (λ e. simp (e, c.in_ok-put_limits.ensures, c.in_ok-put_row_name.ensures, c.in_ok-put_level.ensures, c.missed_in-missed.ensures, c.latest_in.ensures, append_assoc))
-    c.put_missed_line.ensures
+returns c =
+    let start = string_bytes c.args.text.now in
+    let name = rw c.missed_in-missed.ensures at c.in_ok-put_row_name.ensures in
+    let line = rw (c.missed_in-missed.ensures, c.latest_in.ensures) at c.put_missed_line.ensures in
+    put_last _ start _ _ _ _ (put_both start _ _ _ _ (put_both start _ _ _ _ c.in_ok-put_level.ensures name) c.in_ok-put_limits.ensures)
+    line

@@ -2,7 +2,7 @@ use Rattle.std.proofs.Common.{◌≡◌, ◌∙◌, ◌++◌, List, ℕ, ap, len
 use Rattle.std.proofs.lemmas.Bool.{lt-ltb}
 use Rattle.std.proofs.lemmas.Result.{on_ok_weaker}
 use Rattle.frames.specs.Frame.{Frame}
-use Rattle.frames.specs.PictureRows.{at_spot, row_at, spot_in}
+use Rattle.frames.specs.PictureRows.{at_spot, row_at}
 use Rattle.frames.specs.declared.rows.Spot.{Spot}
 use Rattle.frames.specs.declared.rows.TaskRow.{TaskRow}
 use Rattle.frames.proofs.Lanes.{text_in_lane}
@@ -18,8 +18,8 @@ returns c =
     let text : Frame → Spot → TaskRow → List ℕ = λ f s row. margin_text f chart.jobs.now s row in
     let same = text_in_lane text rows chart.frame spot lane.frame lane.spot lane.row.now
     c.lane.ensures.frame c.lane.ensures.spot c.lane.ensures.row in
-    let placed : text chart.frame spot (row_at rows spot.rank)
-    ≡ at_spot rows (spot_in chart.shown.now c.args.k) (text chart.frame) =
-    rw (← c.spot-spot.ensures.spot, lt-ltb spot.rank (length rows) c.if-spot-chart.false) refl in
+    let here : text chart.frame spot (row_at rows spot.rank) ≡ at_spot rows spot (text chart.frame) =
+    rw (lt-ltb spot.rank (length rows) c.if-spot-chart.false) refl in
+    let placed = ap (λ (s : Spot). at_spot rows s (text chart.frame)) c.spot-spot.ensures.spot in
     on_ok_weaker c.put_margin.result (λ e. e
-    ∙ ap (λ (l : List ℕ). string_bytes c.args.text.now ++ l) (same ∙ placed)) c.put_margin.ensures
+    ∙ ap (λ (l : List ℕ). string_bytes c.args.text.now ++ l) (same ∙ here ∙ placed)) c.put_margin.ensures
