@@ -4,6 +4,5 @@ pub mod Anys
 pub mod Lanes
 pub mod Executed
 pub mod Folds
-mod Chosen
 mod Shown
 pub mod Tonings
