@@ -6,7 +6,7 @@ use Rattle.std.proofs.Common.{Some, None, Bool, true, false, ◌&&◌, ◌||◌,
 use Rattle.std.proofs.Common.{unwrap_or, position, slice_index_or}
 use Rattle.std.proofs.lemmas.Option.{none-some}
 use Rattle.std.specs.List.{list_any}
-use Rattle.std.specs.Option.{option_or, option_map}
+use Rattle.std.specs.Option.{option_or, option_map, MatchOption}
 use Rattle.std.proofs.lemmas.Bool.{cases_eq, cases_lt, cases_Bool, true≢false, lt-ltb, le-ltb}
 use Rattle.std.proofs.lemmas.Bool.{eq-eqb, ne_eqb, or_parts}
 use Rattle.std.proofs.lemmas.List.{map_more, get_or_default, length-replicate}
@@ -70,6 +70,21 @@ first_found test n k e t lt =
     let here : first_where test (suc k) ≡ Some k = first_step test k ∙ rw (e, t) in
     let s : suc k + (n - suc k) ≡ n = omega arith in
     sym (ap (first_where test) s) ∙ first_kept test (suc k) k (n - suc k) here
+
+first_all : (test : ℕ → Bool) (n : ℕ) → ((k : ℕ) → k < n → test k ≡ false)
+    → first_where test n ≡ None
+first_all test zero none = first_start test
+first_all test (suc n) none =
+    first_step test n ∙ rw (first_all test n (λ k lt. none k (omega arith)), none n (omega arith))
+
+-- what the first of the numbers below n that passes is, if there is one
+pub first_from_cases : (test : ℕ → Bool) (n : ℕ) (r : Option ℕ)
+    → MatchOption r ((k : ℕ) → 0 ≤ k → k < n → test k ≡ false)
+    (λ i. (0 ≤ i) × (i < n) × (test i ≡ true) × ((k : ℕ) → 0 ≤ k → k < i → test k ≡ false))
+    → r ≡ first_where test n
+first_from_cases test n None none = sym (first_all test n (λ k lt. none k (omega arith) lt))
+first_from_cases test n (Some i) e = sym (first_found test n i
+    (first_all test i (λ k lt. e.3 k (omega arith) lt)) e.2 e.1)
 
 -- ---- where nothing is refused
 or_none : (a b : Option RunFault) → option_or a b ≡ None → (a ≡ None) × (b ≡ None)

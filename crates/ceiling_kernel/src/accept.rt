@@ -27,12 +27,7 @@ fn first_unsorted(releases: &[Release]) -> Option<usize>
     ensures first { result ≡ first_where (is_unsorted releases.now) (length releases.now) }
     ensures in_list { IfSome result (λ k. k < length releases.now) }
 {
-    for k in 0..releases.len() {
-        if is_unsorted(releases, k) {
-            return Some(k);
-        }
-    }
-    None
+    (0..releases.len()).find(|k| is_unsorted(releases, *k))
 }
 
 // The index of each release's task, or the place, from 0, of the first whose task is unknown.
@@ -106,12 +101,7 @@ fn first_too_late(set: &TaskSet, releases: &[Release], places: &[usize]) -> Opti
     ensures first { result ≡ first_where (is_too_late set.now releases.now) (length releases.now) }
     ensures in_list { IfSome result (λ k. k < length releases.now) }
 {
-    for k in 0..releases.len() {
-        if is_too_late(set, releases, places, k) {
-            return Some(k);
-        }
-    }
-    None
+    (0..releases.len()).find(|k| is_too_late(set, releases, places, *k))
 }
 
 // The release executes nothing, or more than its task's cost.
@@ -133,12 +123,7 @@ fn first_outside_cost(set: &TaskSet, releases: &[Release], places: &[usize]) -> 
     ensures first { result ≡ first_where (is_outside_cost set.now releases.now) (length releases.now) }
     ensures in_list { IfSome result (λ k. k < length releases.now) }
 {
-    for k in 0..releases.len() {
-        if is_outside_cost(set, releases, places, k) {
-            return Some(k);
-        }
-    }
-    None
+    (0..releases.len()).find(|k| is_outside_cost(set, releases, places, *k))
 }
 
 // The release becomes ready at the end or after it.
