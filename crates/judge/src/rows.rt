@@ -125,11 +125,10 @@ fn turned(setting: Setting) -> Setting
 fn all_turned(alloc: Global, settings: &[Setting]) -> Result<Vec<Setting>, AllocError>
     ensures { IfOk result (λ all. all.items ≡ map turned settings.now) }
 {
-    let mut all = Vec::with_capacity(alloc, settings.len())?;
-    for setting in settings {
-        all.push(turned(*setting))?;
-    }
-    Ok(all)
+    settings
+        .iter()
+        .map(|setting| turned(*setting))
+        .collect(alloc)
 }
 
 // What a node is set to, with numbers of which a greater one is higher, also where its own count the other way round.
