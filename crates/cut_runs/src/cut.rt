@@ -30,13 +30,10 @@ fn is_ready_before(release: Release, time: u64) -> bool
 fn ready_before(alloc: Global, releases: &[Release], time: u64) -> Result<Vec<Release>, AllocError>
     ensures { IfOk result (λ kept. kept.items ≡ ready_before time releases.now) }
 {
-    let mut kept = Vec::new(alloc);
-    for release in releases {
-        if is_ready_before(*release, time) {
-            kept.push(*release)?;
-        }
-    }
-    Ok(kept)
+    let releases = releases.iter().copied();
+    releases
+        .filter(|release| is_ready_before(*release, time))
+        .collect(alloc)
 }
 
 // The run of what is left of a list where a job of a task, of this name, overruns the one before it at this time.
