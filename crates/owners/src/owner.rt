@@ -111,10 +111,7 @@ fn push_interrupts(
     ensures { OnOk result (owners.new.items
         ≡ owners.old.items ++ interrupts_by team interrupts.now) }
 {
-    for _ in interrupts {
-        owners.push(Owner::Interrupt { team })?;
-    }
-    Ok(())
+    owners.extend(interrupts.iter().map(|_| Owner::Interrupt { team }))
 }
 
 // The tasks and interrupts of the documents that a text begins with, up to the first that is no set.
