@@ -10,14 +10,11 @@ use std::alloc::{AllocError, Global};
 pub fn levels_at(alloc: Global, places: &[Place]) -> Result<Vec<Level>, AllocError>
     ensures { IfOk result (λ levels. levels.items ≡ levels_at places.now) }
 {
-    let mut levels = Vec::with_capacity(alloc, places.len())?;
-    for place in places {
-        levels.push(Level {
-            task: place.task,
-            response: Some(place.response),
-        })?;
-    }
-    Ok(levels)
+    let levels = places.iter().map(|place| Level {
+        task: place.task,
+        response: Some(place.response),
+    });
+    levels.collect(alloc)
 }
 
 /// The levels of the order of a placing; none where no order passes. The error is out of memory.
