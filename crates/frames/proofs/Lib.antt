@@ -4,5 +4,4 @@ pub mod Anys
 pub mod Lanes
 pub mod Executed
 pub mod Folds
-mod Shown
 pub mod Tonings
