@@ -1,5 +1,6 @@
 //! The chains of a set in an order that settings give.
 ghost use Rattle.std.specs.Prelude.{◌≡◌, IfOk};
+ghost use Rattle.chain_lines.specs.ChainLines.{all_met};
 ghost use Rattle.two_input_commands.specs.Chained.{AreTold, chained_status, level_judged, levels_judged, response_judged};
 
 use answering::Status;
