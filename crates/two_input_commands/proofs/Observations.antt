@@ -46,9 +46,7 @@ pub given : (U : List Task) (rows : List SettingRow) (found : Result (List Trace
 given U rows found trace judged numbers places some read is by same = record {
   levels = (
     subst (λ (js : List JudgedTask). AreJudgedBy U (Ok rows) js) same (judged_by U rows judged some is),
-    rows,
-    refl,
-    subst (λ (js : List JudgedTask). AreNumbersOf U rows (order_judged js) numbers) same by,
+    (rows, refl, subst (λ (js : List JudgedTask). AreNumbersOf U rows (order_judged js) numbers) same by),
   );
   read = read;
 }

@@ -86,13 +86,16 @@ fn observe_best(
     ensures answer { ObservesRead tasks.now (Ok []) (rows_at at.entry.line at.entry.rest.now) result }
     ensures within { IfOk result IsObservationOf }
 {
-    match observe_at(alloc, tasks, at) {
-        Ok(Sight::Seen(observed)) => Ok(Observation::Seen {
+    let sight = match observe_at(alloc, tasks, at) {
+        Ok(sight) => sight,
+        Err(fault) => return Err(CommandRefusal::Trace(fault)),
+    };
+    match sight {
+        Sight::Infeasible(members) => Ok(Observation::Infeasible(members)),
+        Sight::Seen(observed) => Ok(Observation::Seen {
             is_given: false,
             observed,
         }),
-        Ok(Sight::Infeasible(members)) => Ok(Observation::Infeasible(members)),
-        Err(fault) => Err(CommandRefusal::Trace(fault)),
     }
 }
 
