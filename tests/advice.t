@@ -672,6 +672,9 @@ A trace that doesn't have a task's jobs, and settings to keep of a thread that n
   $ printf 'job hi 5 6\njob hi 4 6\n' | said observe examples/shared-lock.toml -
   standard input: line 2, "job hi 4 6" arrives before the job above it: they stand by arrival
   [4]
+  $ printf '400 600 hi\njob hi 0 500\njob hi 500 900\n' | said observe examples/shared-lock.toml -
+  standard input: line 1, "400 600 hi" lies in no job of its task, between its arrival and its finish; a slice ends with its job
+  [4]
   $ said observe examples/shared-lock.toml examples/shared-lock.trace
   [3]
   $ printf 'thread mid 7\nthread him 9\nthread lo 4\n' | said settings examples/shared-lock.toml --keep -
