@@ -50,8 +50,11 @@ pub fn intervals_of(
 ) -> Result<Vec<Interval>, AllocError>
     ensures { IfOk result (λ intervals. intervals.items ≡ intervals_of set.now trace.now) }
 {
-    let jobs = trace.jobs.iter();
-    jobs.map(|job| interval_of(set, *job)).collect(alloc)
+    let mut intervals = Vec::with_capacity(alloc, trace.jobs.len())?;
+    for job in &trace.jobs {
+        intervals.push(interval_of(set, *job))?;
+    }
+    Ok(intervals)
 }
 
 // What a register shows at a time.
@@ -117,13 +120,16 @@ fn hand_on(registers: &mut [Register], until: u64, interval: Interval) -> Option
 fn blanks(alloc: Global, tasks: &[usize]) -> Result<Vec<Register>, AllocError>
     ensures { IfOk result (λ registers. registers.items ≡ map blank tasks.now) }
 {
-    let registers = tasks.iter().map(|task| Register {
-        task: *task,
-        writes_at: 0,
-        read: None,
-        written: None,
-    });
-    registers.collect(alloc)
+    let mut registers = Vec::with_capacity(alloc, tasks.len())?;
+    for task in tasks {
+        registers.push(Register {
+            task: *task,
+            writes_at: 0,
+            read: None,
+            written: None,
+        })?;
+    }
+    Ok(registers)
 }
 
 /// The outputs of a chain of tasks that write at their deadlines, by their indexes, the first one first, in a run of

@@ -82,13 +82,16 @@ fn pass(stations: &mut [Station], slice: TaskSlice) -> Option<ChainOutput>
 fn fresh(alloc: Global, tasks: &[usize]) -> Result<Vec<Station>, AllocError>
     ensures { IfOk result (λ stations. stations.items ≡ map fresh tasks.now) }
 {
-    let stations = tasks.iter().map(|task| Station {
-        task: *task,
-        runs: false,
-        read: None,
-        written: None,
-    });
-    stations.collect(alloc)
+    let mut stations = Vec::with_capacity(alloc, tasks.len())?;
+    for task in tasks {
+        stations.push(Station {
+            task: *task,
+            runs: false,
+            read: None,
+            written: None,
+        })?;
+    }
+    Ok(stations)
 }
 
 /// The outputs of a chain of tasks that write at their finishes, by their indexes, the first one first, in a run of these slices,

@@ -57,8 +57,9 @@ fn slice_of(set: &TaskSet, jobs: &[JobRecord], slice: Slice) -> TaskSlice
 pub fn slices_of(alloc: Global, set: &TaskSet, trace: &Trace) -> Result<Vec<TaskSlice>, AllocError>
     ensures { IfOk result (λ slices. slices.items ≡ slices_of set.now trace.now) }
 {
-    let slices = trace.slices.iter();
-    slices
-        .map(|slice| slice_of(set, &trace.jobs, *slice))
-        .collect(alloc)
+    let mut slices = Vec::with_capacity(alloc, trace.slices.len())?;
+    for slice in &trace.slices {
+        slices.push(slice_of(set, &trace.jobs, *slice))?;
+    }
+    Ok(slices)
 }

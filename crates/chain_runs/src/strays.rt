@@ -32,8 +32,12 @@ fn is_stray(set: &TaskSet, task: usize, offset: u64, job: &JobRecord) -> bool
 fn first_stray(set: &TaskSet, jobs: &[JobRecord], task: usize, offset: u64) -> Option<JobRecord>
     ensures { result ≡ find (is_stray set.now task offset) jobs.now }
 {
-    let mut jobs = jobs.iter().copied();
-    jobs.find(|job| is_stray(set, task, offset, job))
+    for job in jobs {
+        if is_stray(set, task, offset, job) {
+            return Some(*job);
+        }
+    }
+    None
 }
 
 // Its line, where there is one.

@@ -121,14 +121,17 @@ fn pass(watches: &mut [Watch], execution: Execution)
 fn fresh(alloc: Global, tasks: &[usize]) -> Result<Vec<Watch>, AllocError>
     ensures { IfOk result (λ watches. watches.items ≡ map fresh tasks.now) }
 {
-    let watches = tasks.iter().map(|task| Watch {
-        task: *task,
-        job: None,
-        finish: None,
-        read: None,
-        written: None,
-    });
-    watches.collect(alloc)
+    let mut watches = Vec::with_capacity(alloc, tasks.len())?;
+    for task in tasks {
+        watches.push(Watch {
+            task: *task,
+            job: None,
+            finish: None,
+            read: None,
+            written: None,
+        })?;
+    }
+    Ok(watches)
 }
 
 /// The outputs of a chain of tasks, by their indexes, the first one first, in a trace of these slices, which ends then: the

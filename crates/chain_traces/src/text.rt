@@ -39,7 +39,11 @@ fn level_of(promise: &Promise) -> Level
 fn levels_of(alloc: Global, promises: &[Promise]) -> Result<Vec<Level>, AllocError>
     ensures { IfOk result (λ levels. levels.items ≡ map level_of promises.now) }
 {
-    promises.iter().map(level_of).collect(alloc)
+    let mut levels = Vec::with_capacity(alloc, promises.len())?;
+    for promise in promises {
+        levels.push(level_of(promise))?;
+    }
+    Ok(levels)
 }
 
 // An age is past what it is held against, by more than is let pass.

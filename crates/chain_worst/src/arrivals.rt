@@ -93,7 +93,12 @@ fn against(sheet: &Sheet, rank: usize, until: u64, aims: &[Aim], time: u64) -> u
 fn own_aim(rank: usize, aims: &[Aim]) -> Option<Aim>
     ensures { result ≡ own_aim rank aims.now }
 {
-    aims.iter().copied().find(|aim| aim.task == rank)
+    for aim in aims {
+        if aim.task == rank {
+            return Some(*aim);
+        }
+    }
+    None
 }
 
 /// When the next job of a task arrives that may arrive from a time on.
@@ -112,7 +117,12 @@ pub(crate) fn next_of(sheet: &Sheet, rank: usize, until: u64, aims: &[Aim], time
 fn has_ready(aims: &[Aim], ready: u64) -> bool
     ensures { result ≡ list_any (λ m. m.ready == ready) aims.now }
 {
-    aims.iter().any(|aim| aim.ready == ready)
+    for aim in aims {
+        if aim.ready == ready {
+            return true;
+        }
+    }
+    false
 }
 
 // An aim is, before the end.

@@ -43,7 +43,11 @@ pub enum ChainCase {
 fn order_of(alloc: Global, levels: &[Level]) -> Result<Vec<usize>, AllocError>
     ensures { IfOk result (λ order. order.items ≡ order_of levels.now) }
 {
-    levels.iter().map(|level| level.task).collect(alloc)
+    let mut order = Vec::with_capacity(alloc, levels.len())?;
+    for level in levels {
+        order.push(level.task)?;
+    }
+    Ok(order)
 }
 
 // The aims of a chain with these steps, to whose first task something comes at a time.

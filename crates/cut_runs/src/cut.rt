@@ -30,10 +30,13 @@ fn is_ready_before(release: Release, time: u64) -> bool
 fn ready_before(alloc: Global, releases: &[Release], time: u64) -> Result<Vec<Release>, AllocError>
     ensures { IfOk result (λ kept. kept.items ≡ ready_before time releases.now) }
 {
-    let releases = releases.iter().copied();
-    releases
-        .filter(|release| is_ready_before(*release, time))
-        .collect(alloc)
+    let mut kept = Vec::new(alloc);
+    for release in releases {
+        if is_ready_before(*release, time) {
+            kept.push(*release)?;
+        }
+    }
+    Ok(kept)
 }
 
 // The run of what is left of a list where a job of a task, of this name, overruns the one before it at this time.

@@ -127,7 +127,11 @@ pub(crate) fn make_all_said(
 fn said(alloc: Global, interrupts: &[TeamInterrupt]) -> Result<Vec<Interrupt>, AllocError>
     ensures { IfOk result (λ all. all.items ≡ said_of interrupts.now) }
 {
-    interrupts.iter().map(|x| x.interrupt).collect(alloc)
+    let mut all = Vec::with_capacity(alloc, interrupts.len())?;
+    for x in interrupts {
+        all.push(x.interrupt)?;
+    }
+    Ok(all)
 }
 
 // The sheets with the interrupts, where there are some, on the account of the first.

@@ -78,8 +78,11 @@ fn above_parts(
     requires time { time ≤ PERIOD_TO }
     ensures { IfOk result (λ above. above.items ≡ map (above_at set.now time) order.now) }
 {
-    let above = order.iter().map(|task| above_at(set, *task, time));
-    above.collect(alloc)
+    let mut above = Vec::with_capacity(alloc, order.len())?;
+    for task in order {
+        above.push(above_at(set, *task, time))?;
+    }
+    Ok(above)
 }
 
 // What a task's timer takes in a window.

@@ -4,4 +4,6 @@ pub mod Anys
 pub mod Lanes
 pub mod Executed
 pub mod Folds
+mod Chosen
+mod Shown
 pub mod Tonings

@@ -44,10 +44,11 @@ fn twins_of(
     ensures { IfOk result (λ ranks. ranks.items
         ≡ map (twin_of rows.now other.now shown.now) rows_shown.now) }
 {
-    rows_shown
-        .iter()
-        .map(|rank| twin_of(rows, other, shown, *rank))
-        .collect(alloc)
+    let mut ranks = Vec::new(alloc);
+    for rank in rows_shown {
+        ranks.push(twin_of(rows, other, shown, *rank))?;
+    }
+    Ok(ranks)
 }
 
 // Those of the rows that have no row of the same task in another run.
@@ -62,10 +63,13 @@ fn alone_of(
     ensures { IfOk result (λ ranks. ranks.items
         ≡ filter (is_alone rows.now other.now shown.now) rows_shown.now) }
 {
-    let ranks = rows_shown.iter().copied();
-    ranks
-        .filter(|rank| is_alone(rows, other, shown, *rank))
-        .collect(alloc)
+    let mut ranks = Vec::new(alloc);
+    for rank in rows_shown {
+        if is_alone(rows, other, shown, *rank) {
+            ranks.push(*rank)?;
+        }
+    }
+    Ok(ranks)
 }
 
 /// The ranks of the rows below those of another run: of the same tasks, and then of the tasks that it has no row of.

@@ -1,7 +1,7 @@
 //! What part of a run is drawn, and how.
-ghost use Rattle.std.specs.Prelude.{◌<◌, ◌≡◌, ◌≤◌, All, IfOk, None, [], length, string_bytes};
+ghost use Rattle.std.specs.Prelude.{◌<◌, ◌≡◌, ◌≤◌, All, IfOk, None, OnOk, [], length, string_bytes};
 ghost use Rattle.ceiling_kernel.specs.declared.accept.TheConstants.{HORIZON};
-ghost use Rattle.frames.specs.View.{end_of_run, is_chosen, is_empty, is_released, paper_width, shown_of, window_end};
+ghost use Rattle.frames.specs.View.{end_of_run, is_chosen, is_empty, is_released, noted_rank, paper_width, shown_of, window_end};
 
 use crate::rows::{TaskRow, name_in};
 use ceiling_kernel::{HORIZON, Release};
@@ -87,6 +87,16 @@ pub(crate) fn is_chosen(names: &[Name], releases: &[Release], name: Name) -> boo
     }
 }
 
+// Notes a row that is shown.
+fn note(shown: &mut Vec<usize>, rank: usize, is_shown: bool) -> Result<(), AllocError>
+    ensures { OnOk result (shown.new.items ≡ noted_rank shown.old.items rank is_shown) }
+{
+    if is_shown {
+        shown.push(rank)?;
+    }
+    Ok(())
+}
+
 /// The rows that are shown, by their ranks: those that are named, or where none is, those of which a list has a release.
 pub fn shown_of(
     alloc: Global,
@@ -99,8 +109,10 @@ pub fn shown_of(
     ensures within { IfOk result (λ shown. All (λ rank. rank < length rows.now) shown.items) }
     ensures few { IfOk result (λ shown. length shown.items ≤ length rows.now) }
 {
-    let ranks = 0..rows.len();
-    ranks
-        .filter(|rank| is_chosen(names, releases, name_in(rows, *rank)))
-        .collect(alloc)
+    let mut shown = Vec::new(alloc);
+    for rank in 0..rows.len() {
+        let is_shown = is_chosen(names, releases, name_in(rows, rank));
+        note(&mut shown, rank, is_shown)?;
+    }
+    Ok(shown)
 }

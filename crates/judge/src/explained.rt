@@ -33,7 +33,11 @@ pub enum Parted {
 pub fn order_of(alloc: Global, judged: &[JudgedTask]) -> Result<Vec<usize>, AllocError>
     ensures { IfOk result (λ order. order.items ≡ order_judged judged.now) }
 {
-    judged.iter().map(|entry| entry.task).collect(alloc)
+    let mut order = Vec::with_capacity(alloc, judged.len())?;
+    for entry in judged {
+        order.push(entry.task)?;
+    }
+    Ok(order)
 }
 
 // The response of a task below these, with what it is made of.

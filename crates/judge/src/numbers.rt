@@ -41,6 +41,9 @@ pub(crate) fn numbers_of(
     ensures { IfOk result (λ numbers. numbers.items
         ≡ map (thread_number set.now (threads_of rows.now)) order.now) }
 {
-    let numbers = order.iter().map(|task| number_at(set, rows, *task));
-    numbers.collect(alloc)
+    let mut numbers = Vec::with_capacity(alloc, order.len())?;
+    for task in order {
+        numbers.push(number_at(set, rows, *task))?;
+    }
+    Ok(numbers)
 }

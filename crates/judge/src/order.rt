@@ -60,7 +60,11 @@ fn numbered_of(
 fn tasks_of(alloc: Global, numbered: &[Numbered]) -> Result<Vec<usize>, AllocError>
     ensures { IfOk result (λ order. order.items ≡ map (λ n. n.task) numbered.now) }
 {
-    numbered.iter().map(|entry| entry.task).collect(alloc)
+    let mut order = Vec::with_capacity(alloc, numbered.len())?;
+    for entry in numbered {
+        order.push(entry.task)?;
+    }
+    Ok(order)
 }
 
 /// The tasks of a set that have a thread, by their numbers, the lowest first.

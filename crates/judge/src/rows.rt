@@ -125,10 +125,11 @@ fn turned(setting: Setting) -> Setting
 fn all_turned(alloc: Global, settings: &[Setting]) -> Result<Vec<Setting>, AllocError>
     ensures { IfOk result (λ all. all.items ≡ map turned settings.now) }
 {
-    settings
-        .iter()
-        .map(|setting| turned(*setting))
-        .collect(alloc)
+    let mut all = Vec::with_capacity(alloc, settings.len())?;
+    for setting in settings {
+        all.push(turned(*setting))?;
+    }
+    Ok(all)
 }
 
 // What a node is set to, with numbers of which a greater one is higher, also where its own count the other way round.

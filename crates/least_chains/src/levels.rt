@@ -10,11 +10,14 @@ use std::alloc::{AllocError, Global};
 pub fn levels_at(alloc: Global, places: &[Place]) -> Result<Vec<Level>, AllocError>
     ensures { IfOk result (λ levels. levels.items ≡ levels_at places.now) }
 {
-    let levels = places.iter().map(|place| Level {
-        task: place.task,
-        response: Some(place.response),
-    });
-    levels.collect(alloc)
+    let mut levels = Vec::with_capacity(alloc, places.len())?;
+    for place in places {
+        levels.push(Level {
+            task: place.task,
+            response: Some(place.response),
+        })?;
+    }
+    Ok(levels)
 }
 
 /// The levels of the order of a placing; none where no order passes. The error is out of memory.

@@ -1,13 +1,11 @@
 -- The job that a slice is of, among jobs and slices that stand by time.
 use Rattle.std.proofs.Common.{◌≡◌, ◌∙◌, ℕ, zero, suc, ◌+◌, ◌<◌, ◌≤◌, Bool, true, false, nat_le, nat_lt}
 use Rattle.std.proofs.Common.{List, [], ◌∷◌, ◌++◌, length, get_or, Option, Some, None, unwrap_or, position, cond, drop, not}
-use Rattle.std.proofs.Common.{refl, sym, ap, arith, append_assoc, reverse}
-use Rattle.std.specs.List.{filter, find, position_or_len}
-use Rattle.std.specs.Option.{option_or}
+use Rattle.std.proofs.Common.{refl, sym, ap, arith, take, append_assoc}
+use Rattle.std.specs.List.{filter, position_or_len}
 use Rattle.std.proofs.lemmas.Bool.{and_left, and_parts, and_right, leb-true, lt-leb, le-leb, le-ltb, ltb-false, ltb-true, lt-ltb, not-false, true≢false}
 use Rattle.std.specs.Prelude.{if◌then◌else◌}
-use Rattle.std.proofs.lemmas.List.{drop_more, reverse-append}
-use Rattle.std.proofs.lemmas.List.Folds.{find-append}
+use Rattle.std.proofs.lemmas.List.{drop_more, take_more}
 use Rattle.std.proofs.lemmas.List.Sums.{position_or_len_is}
 use Rattle.task_sheet.specs.Sheet.{same_bytes}
 use Rattle.trace_text.specs.declared.rows.TraceJob.{TraceJob}
@@ -239,26 +237,17 @@ swept_kept jobs time live kept next swept is =
     }
 
 -- ---- the last job of a name
-last_or : (o : Option TraceJob) (b : Bool) (j : TraceJob) (last : Option TraceJob)
-    → option_or o (if b then Some j else last) ≡ option_or (option_or o (if b then Some j else None)) last
-last_or None true j last = refl
-last_or None false j last = refl
-last_or (Some i) b j last = refl
+from_push : (name : List ℕ) (last : Option TraceJob) (xs : List TraceJob) (j : TraceJob)
+    → last_from name last (xs ++ j ∷ [])
+    ≡ (if same_bytes j.name name then Some j else last_from name last xs)
+from_push name last [] j = refl
+from_push name last (x ∷ xs) j =
+    from_push name (if same_bytes x.name name then Some x else last) xs j
 
-from_behind : (name : List ℕ) (last : Option TraceJob) (js : List TraceJob)
-    → last_from name last js ≡ option_or (find (λ j. same_bytes j.name name) (reverse js)) last
-from_behind name last [] = refl
-from_behind name last (j ∷ js) =
-    let p : TraceJob → Bool = λ i. same_bytes i.name name in
-    from_behind name (if p j then Some j else last) js ∙ last_or (find p (reverse js)) (p j) j last
-    ∙ ap (λ (o : Option TraceJob). option_or o last) (sym (ap (find p) (reverse-append (j ∷ []) js)
-    ∙ find-append p (reverse js) (j ∷ [])))
-
-or_none : (o : Option TraceJob) → option_or o None ≡ o
-or_none None = refl
-or_none (Some j) = refl
-
--- it is the first from behind
-pub last_behind : (name : List ℕ) (js : List TraceJob)
-    → find (λ j. same_bytes j.name name) (reverse js) ≡ last_job name js
-last_behind name js = sym (from_behind name None js ∙ or_none _)
+-- of the first jobs and one more
+pub last_more : (name : List ℕ) (js : List TraceJob) (i : ℕ) (d : TraceJob) → i < length js
+    → last_job name (take (i + 1) js)
+    ≡ (if same_bytes (get_or js i d).name name then Some (get_or js i d)
+    else last_job name (take i js))
+last_more name js i d lt =
+    ap (last_job name) (take_more js i d lt) ∙ from_push name None (take i js) (get_or js i d)

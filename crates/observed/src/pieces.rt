@@ -94,8 +94,11 @@ fn homes_found(
 ) -> Result<Vec<Option<usize>>, AllocError>
     ensures { IfOk result (λ homes. homes.items ≡ map (job_of jobs.now) slices.now) }
 {
-    let homes = slices.iter().map(|slice| job_of(jobs, *slice));
-    homes.collect(alloc)
+    let mut homes = Vec::with_capacity(alloc, slices.len())?;
+    for slice in slices {
+        homes.push(job_of(jobs, *slice))?;
+    }
+    Ok(homes)
 }
 
 /// The place of the first job that each slice of a trace lies in. The error is out of memory.

@@ -195,8 +195,12 @@ fn is_follower(owner: Owner, name: &[u8], place: usize) -> bool
 fn follows(owners: &[Owner], name: &[u8], place: usize) -> bool
     ensures { result ≡ follows owners.now name.now place }
 {
-    let mut owners = owners.iter();
-    owners.any(|owner| is_follower(*owner, name, place))
+    for owner in owners {
+        if is_follower(*owner, name, place) {
+            return true;
+        }
+    }
+    false
 }
 
 /// How many of the sections behind one of a task move along with its end: those that don't say where they begin, up to the

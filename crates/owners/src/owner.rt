@@ -111,7 +111,10 @@ fn push_interrupts(
     ensures { OnOk result (owners.new.items
         ≡ owners.old.items ++ interrupts_by team interrupts.now) }
 {
-    owners.extend(interrupts.iter().map(|_| Owner::Interrupt { team }))
+    for _ in interrupts {
+        owners.push(Owner::Interrupt { team })?;
+    }
+    Ok(())
 }
 
 // The tasks and interrupts of the documents that a text begins with, up to the first that is no set.
