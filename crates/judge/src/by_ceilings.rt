@@ -18,29 +18,9 @@ use crate::rows::NodeSettings;
 use assignment::{least_over, members_of};
 use blocking::blocking;
 use ceilings::Tabled;
-use response_time::demand;
+use response_time::{demand, jitter_of, limit_of};
 use std::alloc::{AllocError, Global};
 use task_sheet::Members;
-
-// The longest window that serves a task, in microseconds: what its jitter leaves of its deadline.
-fn limit_of(set: &Tabled<'_>, task: usize) -> u64
-    requires { task < length set.now }
-    ensures is { result ≡ limit_of (task_at set.now task) }
-    ensures some { 0 < result }
-    ensures short { result ≤ PERIOD_TO }
-    ensures kept { IsTaskSet set.now }
-{
-    set.sheets()[task].limit()
-}
-
-// How long after its arrival a job of the task is released at most, in microseconds.
-fn jitter_of(set: &Tabled<'_>, task: usize) -> u64
-    requires { task < length set.now }
-    ensures is { result ≡ (task_at set.now task).jitter }
-    ensures short { result ≤ PERIOD_TO }
-{
-    set.sheets()[task].jitter()
-}
 
 // The demand of a task in a window of some microseconds, with so much more blocking than by the least ceilings.
 fn longer_demand(set: &Tabled<'_>, task: usize, above: Members, more: u64, time: u64) -> u64

@@ -41,8 +41,8 @@ pub struct Response {
     pub evaluations: usize,
 }
 
-// The longest window that serves a task, in microseconds: what its jitter leaves of its deadline.
-fn limit_of(set: &Tabled<'_>, task: usize) -> u64
+/// The longest window that serves a task, in microseconds: what its jitter leaves of its deadline.
+pub fn limit_of(set: &Tabled<'_>, task: usize) -> u64
     requires { task < length set.now }
     ensures is { result ≡ limit_of (task_at set.now task) }
     ensures some { 0 < result }
@@ -52,8 +52,8 @@ fn limit_of(set: &Tabled<'_>, task: usize) -> u64
     set.sheets()[task].limit()
 }
 
-// How long after its arrival a job of the task is released at most, in microseconds.
-fn jitter_of(set: &Tabled<'_>, task: usize) -> u64
+/// How long after its arrival a job of the task is released at most, in microseconds.
+pub fn jitter_of(set: &Tabled<'_>, task: usize) -> u64
     requires { task < length set.now }
     ensures is { result ≡ (task_at set.now task).jitter }
     ensures short { result ≤ WINDOW_LIMIT }
