@@ -2,3 +2,4 @@ pub mod Answers
 pub mod Workload
 pub mod WorkloadFields
 pub mod Starts
+pub mod Slowed

@@ -14,10 +14,12 @@ ghost use Rattle.response_time.specs.Workload.{work_within, demand_with, IsFirst
 
 mod interrupts;
 pub mod laws;
+mod slowed;
 mod uninterrupted;
 mod workload;
 
 use crate::interrupts::{has_interrupts, interrupts_within};
+pub use crate::slowed::passes_at;
 pub use crate::uninterrupted::passes_uninterrupted;
 use crate::workload::Workload;
 use ceilings::Tabled;
