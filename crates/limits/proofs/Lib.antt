@@ -9,3 +9,4 @@ pub mod NodeLaws
 pub mod SharedLaws
 pub mod WrittenLaws
 pub mod CutLaws
+pub mod InOrderLaws

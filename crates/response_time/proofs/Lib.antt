@@ -5,3 +5,4 @@ pub mod Walks
 pub mod AboveLaws
 pub mod InterruptSums
 pub mod UninterruptedLaws
+pub mod SlowedLaws

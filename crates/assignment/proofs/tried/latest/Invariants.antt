@@ -1,4 +1,4 @@
-use Rattle.std.proofs.Common.{◌≡◌, ℕ, ◌<◌, ◌≤◌, IfSome, IfNone}
+use Rattle.std.proofs.Common.{ℕ, ◌<◌, ◌≤◌, IfSome, IfNone}
 use Rattle.task_sheet.proofs.Common.{task_at, indexes_of, limit_of}
 use Rattle.latest_first.specs.LatestFirst.{IsFree}
 use Rattle.assignment.proofs.tried.latest.Given as goal

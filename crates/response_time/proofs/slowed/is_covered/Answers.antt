@@ -9,19 +9,20 @@ use Rattle.response_time.proofs.slowed.is_covered.Goals as goal
 
 pub returns-then-next-window : goal.returns-then-next-window
 returns-then-next-window c =
-    let inv = c.loop-window.invariant in (
+    let inv = c.loop-window.invariant in
+    let covers : c.args.factor * c.demand-need.result ≤ 1000 * c.loop-window.window = omega (
+      arith,
+      inv.few,
+      c.loop-window-test.true,
+      c.if-next-window.true,
+      c.div_ceil-next.ensures,
+      c.saturating_mul.ensures,
+    ) in (
       λ _. (
         c.loop-window.window,
         inv.positive,
         omega (arith, inv.limit, c.loop-window-test.true),
-        rw c.demand-need.ensures at (omega (
-          arith,
-          inv.few,
-          c.loop-window-test.true,
-          c.if-next-window.true,
-          c.div_ceil-next.ensures,
-          c.saturating_mul.ensures,
-        ) : c.args.factor * c.demand-need.result ≤ 1000 * c.loop-window.window),
+        rw c.demand-need.ensures at covers,
       ),
       λ _. refl,
     )
@@ -38,8 +39,10 @@ loop-window-preserved c =
       fails = λ t positive lt. elim (cases_lt t c.loop-window.window) [
         | inl before ↦ inv.fails t positive before
         | inr past ↦
-            let rises = mul-le-mul_left c.args.factor (rw c.demand-need.ensures
-            (demand-mono U (AllTasks-from_set U c.limit_of-limit.ensures.kept) c.args.task H _ t past)) in
+            let need : c.demand-need.result ≤ demand_of U c.args.task H t = rw c.demand-need.ensures
+            (demand-mono U (AllTasks-from_set U c.limit_of-limit.ensures.kept) c.args.task H _ t past) in
+            let rises : c.args.factor * c.demand-need.result ≤ c.args.factor * demand_of U c.args.task H t =
+            mul-le-mul_left c.args.factor need in
             omega (arith, rises, lt, c.div_ceil-next.ensures, c.saturating_mul.ensures)
       ];
     }
