@@ -15,7 +15,7 @@ mod verdict;
 
 pub use assigning::assign;
 pub use climb::{Climb, ClimbFault, Unfinished};
-pub use feasibility::{is_feasible, standing};
+pub use feasibility::{is_feasible, is_feasible_at, obstruction_at, standing};
 pub use level::{Closed, Level, NotAll, TakeFault};
 pub use members::{members_at, members_of};
 pub use outcome::{Outcome, Reason, least_over};

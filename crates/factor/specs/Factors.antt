@@ -1,22 +1,16 @@
 -- All execution of a set taken so many thousandths of itself, as on a slower processor, and the greatest such factor with
 -- which it passes.
 use Rattle.std.specs.Prelude.{ℕ, ◌+◌, ◌*◌, ◌<◌, ◌≤◌, List, Option, Some, None}
-use Rattle.task_sheet.specs.Sheet.{Task, task_at}
+use Rattle.task_sheet.specs.Sheet.{Task}
 use Rattle.task_sheet.specs.Indexes.{Indexes}
-use Rattle.task_sheet.specs.Demand.{limit_of, demand_of}
+pub use Rattle.response_time.specs.Slowed.{PassesAt}
 use Rattle.latest_first.specs.LatestFirst.{IsFirstLatest}
 use Rattle.latest_first.specs.Tested.{ObstructsMostBy}
 use Rattle.other_numbers.specs.Easier.{AreEasierBy}
 use Rattle.other_numbers.specs.InOrder.{PassesInBy}
 use Rattle.factor.specs.declared.Slowdown.{Slowdown}
 
--- task i passes with the tasks H above it where all execution takes so many thousandths: some time from 1 to its limit
--- covers as much of its demand
-abbrev pub PassesAt : (factor : ℕ) → List Task → ℕ → Indexes → Type 0
-PassesAt factor U i H =
-    (t : ℕ) × (1 ≤ t) × (t ≤ limit_of (task_at U i)) × (factor * demand_of U i H t ≤ 1000 * t)
-
--- this order passes so, or some order where none is given
+-- this order passes at a factor, or some order where none is given
 abbrev pub PassesInAt : (factor : ℕ) → Option (List ℕ) → List Task → Type 0
 PassesInAt factor order U = PassesInBy (PassesAt factor U) order U
 

@@ -10,7 +10,7 @@ ghost use Rattle.limit_lines.specs.LimitLines.{AnswersFactorIn, AnswersIn, AreTa
 
 use assignment::Place;
 use ceilings::Tabled;
-use factor::{Slowdown, factor, factor_in_order};
+use factor::{Slowdown, factor, greatest_slowdown};
 use limits::{Number, furthest, furthest_from, furthest_in_order, most_len, value_of};
 use lines::{push_name, push_some};
 use owners::{Owner, along, is_clocked};
@@ -573,7 +573,7 @@ fn factor_in(set: &Tabled<'_>, order: Option<&[usize]>) -> Option<u64>
     ensures { AnswersFactorIn set.now (option_map (λ o. o.now) order.entry) result }
 {
     match order {
-        Some(order) => factor_in_order(set, order),
+        Some(_) => factor(set, order),
         None => None,
     }
 }
@@ -617,7 +617,7 @@ pub(crate) fn last_text(
     if set.len() == 0 {
         return Ok(String::new(alloc));
     }
-    let found = factor(set);
+    let found = greatest_slowdown(set);
     let own = factor_in(set, order);
     factor_text(alloc, set.tasks(), own, found)
 }

@@ -1,5 +1,5 @@
 //! Where a test stops to hold.
-ghost use Rattle.std.specs.Prelude.{ℕ, ◌<◌, ◌≤◌, Ok, IfOk};
+ghost use Rattle.std.specs.Prelude.{ℕ, ◌<◌, ◌≤◌, Ok, Err, IfOk, IfErr};
 ghost use Rattle.limits.specs.Bisection.{IsEdge};
 
 use std::alloc::AllocError;
@@ -15,7 +15,8 @@ pub fn edge_of<F: Fn(u64) -> Result<bool, AllocError>>(
     requires within { known < end }
     requires step { 1 ≤ first_step }
     requires test { (n : ℕ) → known < n → n < end → F.pre holds n }
-    ensures { IfOk result (IsEdge (λ n answer. F.post holds n (Ok answer)) known end) }
+    ensures edge { IfOk result (IsEdge (λ n answer. F.post holds n (Ok answer)) known end) }
+    ensures error { IfErr result (λ error. (n : ℕ) × F.post holds n (Err error)) }
 {
     let mut passing = known;
     let mut failing = end;

@@ -6,7 +6,7 @@ ghost use Rattle.latest_first.specs.Tested.{IsPassingBy};
 ghost use Rattle.other_numbers.specs.InOrder.{PassesInBy};
 ghost use Rattle.limits.specs.InOrder.{PassesIn};
 
-use assignment::{least_over, members_of, obstruction_at};
+use assignment::{is_feasible_at, least_over, members_of};
 use ceilings::Tabled;
 use response_time::passes_at;
 
@@ -42,7 +42,7 @@ pub fn passes_in_at(set: &Tabled<'_>, order: Option<&[usize]>, factor: u64) -> b
 {
     match order {
         Some(order) => order_passes_at(set, order, factor),
-        None => obstruction_at(set, factor).is_none(),
+        None => is_feasible_at(set, factor),
     }
 }
 

@@ -21,8 +21,8 @@ mod unpadded;
 
 pub use crate::bisection::edge_of;
 pub use crate::cuts::{longest_on, most_on};
-pub use crate::in_order::{order_passes, passes_in_at};
 use crate::in_order::passes_in;
+pub use crate::in_order::{order_passes, passes_in_at};
 pub use crate::number::Number;
 pub use crate::other_values::{keeps_sections, numbered};
 pub use crate::shared::{Shared, furthest_shared, most_shared, room_fault, shared_of, with_shared};

@@ -13,7 +13,7 @@ use Rattle.limits.specs.Numbers.{numbered, MayHave, IsFurthest}
 use Rattle.limits.specs.InOrder.{IsFurthestIn}
 use Rattle.limits.proofs.NumberLaws.{in_order-within}
 use Rattle.factor.specs.Factors.{IsFactor, PassesInAt}
-use Rattle.factor.proofs.AtLaws.{Slowed, slowed-eased}
+use Rattle.response_time.proofs.SlowedLaws.{Slowed, slowed-eased}
 use Rattle.preferences.specs.Preferences.{IsByDeadlines}
 use Rattle.latest_first.specs.LatestFirst.{AllPrompt, AreAlike}
 use Rattle.latest_first.proofs.OneOrder.{AllPrompt-valid, IsOrder-alike, IsLatestFirst-alike}

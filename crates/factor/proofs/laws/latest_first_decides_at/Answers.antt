@@ -1,4 +1,5 @@
-use Rattle.factor.proofs.AtLaws.{IsPassingBy-latest, Slowed, slowed-eased}
+use Rattle.response_time.proofs.SlowedLaws.{Slowed, slowed-eased}
+use Rattle.latest_first.proofs.OneOrder.{IsPassingBy-latest}
 use Rattle.factor.proofs.laws.latest_first_decides_at.Goals as goal
 
 pub returns : goal.returns

@@ -1,6 +1,9 @@
 use Rattle.std.proofs.Common.{ℕ, ◌*◌, ◌≤◌, max, arith}
 use Rattle.std.proofs.Math.Nat.{mul-add, mul-le-mul, mul-le-mul_left, mul_left_comm}
-use Rattle.factor.proofs.AtLaws.{Covering, IsAtMost, IsKept, Slowed, demand-easier, PassesWhere-easier, PassesInBy-easier, PassesIn-by}
+use Rattle.response_time.proofs.SlowedLaws.{Slowed}
+use Rattle.latest_first.proofs.OneOrder.{Covering}
+use Rattle.other_numbers.proofs.EasierLaws.{IsKept, demand-easier, PassesWhere-easier, PassesInBy-easier, PassesIn-by}
+use Rattle.factor.specs.Factors.{IsAtMost}
 use Rattle.factor.proofs.laws.slower_sets_pass.Goals as goal
 
 kept : (f : ℕ) → IsKept (IsAtMost f)

@@ -23,11 +23,11 @@ returns c =
     let U = c.args.set.now in
     let order : Option (List ℕ) = option_map (λ o. o.now) c.args.order in
     let last = last-edge _ (λ most. PassesIn order (cut none_follows c.args.lock most U)) _ _ _
-    c.in_ok-most.ensures (c.in_ok-is_possible.ensures.0 c.if-not-is_possible.false)
-    (λ n answer lt post. search rules)
+    c.in_ok-most.ensures.edge (c.in_ok-is_possible.ensures.0 c.if-not-is_possible.false)
+    (λ n answer from lt post. search rules)
     (λ low high from le lt. passes-cut none_follows none_follows c.args.lock low high U order le) in
     λ follows. most-last U c.args.lock order follows c.args.longest _ c.requires.longest
-    c.in_ok-most.ensures.from (omega (arith, c.in_ok-most.ensures.before)) last.0
+    c.in_ok-most.ensures.edge.from (omega (arith, c.in_ok-most.ensures.edge.before)) last.0
     (λ more lt le passes. elim (cases_lt more c.args.longest) [
       | inl lt' ↦ last.1 more lt lt' passes
       | inr ge ↦

@@ -17,8 +17,8 @@ returns c =
     let W = c.args.written.now in
     let order : Option (List ℕ) = option_map (λ o. o.now) c.args.order in
     let here = rw c.with_shared-easy.ensures at (c.in_ok-is_possible.ensures.0 c.if-not-is_possible.false) in
-    let last = last-edge _ (Admits W c.args.node c.args.number order) _ _ _ c.in_ok-most.ensures here
-    (λ n answer lt post. search rules)
+    let last = last-edge _ (Admits W c.args.node c.args.number order) _ _ _ c.in_ok-most.ensures.edge here
+    (λ n answer from lt post. search rules)
     (λ low high from le lt. admits-less W c.args.node c.args.number order c.sheets-sheets.ensures.kept low high
     (omega (arith, from, c.least_shared-least.ensures)) le) in
     last-admits W c.args.node c.args.number order c.sheets-sheets.ensures.kept _ last.0

@@ -51,9 +51,9 @@ pub returns : goal.returns
 returns c = (
   λ so. absurd (both_ways _ refl so),
   λ (t, positive, within, covers). absurd (omega (
-      arith,
-      covers,
-      c.loop-window.invariant.fails t positive
-          (omega (arith, within, c.loop-window.invariant.limit, c.loop-window-test.false)),
+    arith,
+    covers,
+    c.loop-window.invariant.fails t positive
+        (omega (arith, within, c.loop-window.invariant.limit, c.loop-window-test.false)),
   )),
 )
