@@ -103,3 +103,13 @@ order_length n order h =
     let parts = (order_iff n order).1 h in
     sym (total-times n order (below_from_All n order parts.0))
     ∙ total-ones (λ k. times k order) n (λ k lt. times-count k order ∙ parts.1 k lt)
+
+-- what holds of each of an order holds of each that stands above a task
+pub after_of-all : (P : ℕ → Type 0) (order : List ℕ) (i : ℕ) → All P order → All P (after_of order i)
+after_of-all P [] i all = all
+after_of-all P (k ∷ order) i all =
+    let rest : All P order = λ j d lt. all (suc j) d (omega (arith, lt)) in
+    elim (cases_Bool (k == i)) [
+      | inl here ↦ rw here rest
+      | inr there ↦ rw there (after_of-all P order i rest)
+    ]

@@ -7,6 +7,7 @@ mod kernel;
 pub mod laws;
 mod levels;
 mod lists;
+mod orders;
 mod run;
 mod tasks;
 mod trace;
@@ -14,4 +15,5 @@ mod turns;
 
 pub use accept::{HORIZON, RELEASE_LIMIT};
 pub use kernel::{Kernel, KernelFault};
+pub use orders::above;
 pub use trace::{JobRecord, Release, RunFault, Slice, Trace};

@@ -1,18 +1,20 @@
 -- A chain's bound by the responses of its tasks alone, in an order that passes.
 use Rattle.std.proofs.Common.{◌≡◌, ◌≢◌, ◌↔◌, ℕ, ◌+◌, ◌<◌, ◌≤◌, ◌==◌, true, false, List, ◌∷◌}
-use Rattle.std.proofs.Common.{length, get_or, drop, Some, None, cond, refl, sym, ◌∙◌}
+use Rattle.std.proofs.Common.{length, get_or, All, Some, None, cond, refl, sym, ◌∙◌}
 use Rattle.std.proofs.Common.{ap, subst, arith}
 use Rattle.std.specs.Prelude.{IsTrue, nat_le}
 use Rattle.std.specs.List.{list_all}
 use Rattle.std.proofs.lemmas.Bool.{eq-eqb, ne_eqb, le-leb, leb-true}
-use Rattle.std.proofs.lemmas.List.{drop_more, get_or_past}
+use Rattle.std.proofs.lemmas.List.{get_or_past}
+use Rattle.std.proofs.lemmas.List.Elements.{All-from_recursion}
 use Rattle.task_sheet.proofs.Common.{Task, no_task, Indexes, IsPart, among, all_of, IsTaskSet}
 use Rattle.task_sheet.proofs.Common.{IsPassingOrder, IsResponseOf, Passes}
-use Rattle.task_sheet.proofs.IndexLaws.{IsOrderOf-among}
+use Rattle.task_sheet.proofs.IndexLaws.{IsOrderOf-among, order-below}
 use Rattle.task_sheet.proofs.PassingLaws.{IsResponseOf-one}
 use Rattle.ceiling_kernel.specs.Bounds.{after_of}
 use Rattle.ceiling_kernel.proofs.Common.{IsNode, above_of, node_in}
 use Rattle.ceiling_kernel.proofs.NodeLaws.{after_is_above, stands_above}
+use Rattle.ceiling_kernel.proofs.OrderLaws.{after_of-all}
 use Rattle.chains.specs.Parts.{bound_in, order_of, time_in}
 use Rattle.chains.specs.Walks.{bound_by, steps_with}
 use Rattle.chains.specs.declared.bounds.Level.{Level}
@@ -24,30 +26,17 @@ use Rattle.least_chains.proofs.PartLaws.{own-response, part-is, passing-levels, 
 use Rattle.chain_limits.specs.Reaches.{IsMetIn}
 use Rattle.chain_limits.proofs.MetLaws.{have-tasks}
 
--- ---- who stands above a task, along the order
-pub after-here : (order : List ℕ) (n i : ℕ) → n < length order → get_or order n 0 ≡ i
-    → after_of (drop n order) i ≡ drop (n + 1) order
-after-here order n i lt own =
-    ap (λ xs. after_of xs i) (drop_more order n 0 lt)
-    ∙ first (get_or order n 0) (drop (n + 1) order) (eq-eqb (get_or order n 0) i own)
-  where
-    first : (x : ℕ) (above : List ℕ) → (x == i) ≡ true → after_of (x ∷ above) i ≡ above
-    first x above so = rw so refl
-
-pub after-there : (order : List ℕ) (n i : ℕ) → n < length order → get_or order n 0 ≢ i
-    → after_of (drop n order) i ≡ after_of (drop (n + 1) order) i
-after-there order n i lt apart =
-    ap (λ xs. after_of xs i) (drop_more order n 0 lt)
-    ∙ later (get_or order n 0) (drop (n + 1) order) (ne_eqb (get_or order n 0) i apart)
-  where
-    later : (x : ℕ) (above : List ℕ) → (x == i) ≡ false → after_of (x ∷ above) i ≡ after_of above i
-    later x above so = rw so refl
-
 module _ (U : List Task) (order : List ℕ) (set : IsTaskSet U) (passing : IsPassingOrder U order) where
   abbrev above : ℕ → Indexes
   above i = among (after_of order i)
 
   -- who stands above a task is a task of the set
+  pub above-few : (i : ℕ) → All (λ k. k < 32) (after_of order i)
+  above-few i =
+      let all = All-from_recursion (λ k. k < length U) order
+      (order-below (length U) (all_of U) order passing.each_once (λ k h. h)) in
+      after_of-all (λ k. k < 32) order i (λ k d lt. omega (arith, all k d lt, set.few))
+
   pub above-part : (i : ℕ) → IsPart (above i) (all_of U)
   above-part i k h =
       sym (ap (λ (X : Indexes). X k) (IsOrderOf-among (all_of U) order passing.each_once))

@@ -10,27 +10,14 @@ ghost use Rattle.chains.specs.declared.bounds.Writes.TheVariants.{AtFinish};
 ghost use Rattle.least_chains.specs.LeastBound.{ArePassing, part_in, parts_in};
 ghost use Rattle.chain_limits.specs.Reaches.{IsMetIn};
 
+use assignment::members_of;
+use ceiling_kernel::above;
 use ceilings::Tabled;
 use chains::Writes;
 use least_chains::{bound_with, least_time};
 use response_time::response_in_time;
 use std::alloc::{AllocError, Global};
 use task_sheet::Members;
-
-// The tasks that stand above a task in an order.
-fn above_in(set: &Tabled<'_>, order: &[usize], task: usize) -> Members
-    requires { IsOrder set.now order.now }
-    ensures { indexes_of result ≡ among (after_of order.now task) }
-{
-    let mut above = Members::all(set.len());
-    for low in order {
-        above = above.without(*low);
-        if *low == task {
-            return above;
-        }
-    }
-    above
-}
 
 // The part behind the wait of a task in front of these others, where it writes as it finishes.
 fn part_at_finish(set: &Tabled<'_>, order: &[usize], task: usize, others: &[usize]) -> u64
@@ -41,7 +28,7 @@ fn part_at_finish(set: &Tabled<'_>, order: &[usize], task: usize, others: &[usiz
 {
     // The set is valid: the proof has it from its sheets.
     let _ = set.sheets();
-    let above = above_in(set, order, task);
+    let above = members_of(above(order, task));
     match response_in_time(set, task, above) {
         Some(response) => least_time(set, task, above, response, others),
         None => unreachable!(),

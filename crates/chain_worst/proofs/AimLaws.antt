@@ -16,10 +16,6 @@ use Rattle.chain_worst.specs.Laws.{AimsAreAtOffsets, IsAtOffset}
 use Rattle.chain_worst.specs.declared.aims.Aim.{Aim}
 
 -- what holds of all of a list holds of all behind its first
-pub tail_small : {n x : ℕ} {rest others : List ℕ} → rest ≡ x ∷ others → All (λ k. k < n) rest
-    → All (λ k. k < n) others
-tail_small is all = λ k d lt. (rw is at all) (suc k) d (omega (arith, lt))
-
 -- an aim arrives no sooner than what it reads
 aim_late : (offset : Option ℕ) (period time : ℕ) → time ≤ aim_time offset period time
 aim_late None period time = omega arith

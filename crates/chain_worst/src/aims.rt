@@ -2,11 +2,9 @@
 ghost use Rattle.std.specs.Prelude.{◌≡◌, ◌<◌, ◌≤◌, ◌+◌, ◌^◌, max, option_map, Option, length, All, IfOk, MatchOption};
 ghost use Rattle.std.specs.Int.{next_multiple_of};
 ghost use Rattle.task_sheet.specs.Demand.{greatest_of};
-ghost use Rattle.task_sheet.specs.declared.set.TheConstants.{TASK_LIMIT};
 ghost use Rattle.task_sheet.specs.Sheet.{task_at};
-ghost use Rattle.task_sheet.specs.Indexes.{among, indexes_of};
+ghost use Rattle.task_sheet.specs.Indexes.{indexes_of};
 ghost use Rattle.ceiling_kernel.specs.declared.accept.TheConstants.{HORIZON};
-ghost use Rattle.ceiling_kernel.specs.Bounds.{after_of};
 ghost use Rattle.ceiling_kernel.specs.Waits.{lateness_of};
 ghost use Rattle.chains.specs.Gaps.{gap_of};
 ghost use Rattle.chains.specs.Parts.{order_of};
@@ -14,7 +12,7 @@ ghost use Rattle.explain.specs.Blocking.{BlockerData, IsBlockerOf};
 ghost use Rattle.chain_worst.specs.Aims.{AreAims, IsAim, aim_time, before_tick, begin_of, blocker_start, early_of, end_of, round_of, start_of};
 
 use assignment::members_of;
-use ceiling_kernel::HORIZON;
+use ceiling_kernel::{HORIZON, above};
 use ceilings::Tabled;
 use chains::{Level, Step, Writes, after_of, longest_start, starts_of, step_of};
 use explain::{Blocker, first_blocker};
@@ -69,21 +67,6 @@ pub(crate) fn begin_of(set: &TaskSet, tasks: &[usize]) -> u64
     longest_of(set, tasks).max(lead_in_of(set))
 }
 
-// The tasks above one in an order.
-fn above(order: &[usize], task: usize) -> Members
-    requires { All (λ k. k < TASK_LIMIT) order.now }
-    ensures { indexes_of result ≡ among (after_of order.now task) }
-{
-    let mut rest = order;
-    while let Some((lowest, others)) = rest.split_first() {
-        if *lowest == task {
-            return members_of(others);
-        }
-        rest = others;
-    }
-    members_of(rest)
-}
-
 // When the job arrives that blocks an aim which is ready then.
 fn before_tick(ready: u64, section: Option<&Section>) -> u64
     ensures { result ≡ before_tick ready (option_map (λ s. s.now) section.entry) }
@@ -127,7 +110,7 @@ fn aim_of(set: &Tabled<'_>, levels: &[Level], order: &[usize], task: usize, arri
     ensures { IsAim set.now levels.now task arrival result }
 {
     let sheets = set.sheets();
-    let above = above(order, task);
+    let above = members_of(above(order, task));
     let ready = arrival + sheets[task].jitter();
     Aim {
         task,

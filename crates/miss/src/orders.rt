@@ -1,7 +1,6 @@
-//! An order that is given: its kernel, and the tasks above one in it.
+//! The kernel of an order that is given.
 ghost use Rattle.std.specs.Prelude.{◌≡◌, IfOk};
 ghost use Rattle.ceiling_kernel.specs.Tick.{node_in};
-ghost use Rattle.ceiling_kernel.specs.Bounds.{after_of};
 ghost use Rattle.task_sheet.specs.Orders.{IsOrder};
 
 use ceiling_kernel::{Kernel, KernelFault};
@@ -22,18 +21,4 @@ pub(crate) fn kernel_of<'a>(
         Err(KernelFault::WrongOrder) => unreachable!(),
         Err(KernelFault::OutOfMemory) => Err(AllocError),
     }
-}
-
-/// The tasks above one in an order, lowest first.
-pub(crate) fn above(order: &[usize], task: usize) -> &[usize]
-    ensures { result.now ≡ after_of order.now task }
-{
-    let mut rest = order;
-    while let Some((lowest, above)) = rest.split_first() {
-        if *lowest == task {
-            return above;
-        }
-        rest = above;
-    }
-    rest
 }

@@ -7,9 +7,9 @@ ghost use Rattle.task_sheet.specs.Orders.{IsOrder};
 ghost use Rattle.miss.specs.Reached.{IsReachedOf};
 ghost use Rattle.miss.specs.Shown.{IsCaseOf};
 
-use crate::orders::{above, kernel_of};
+use crate::orders::kernel_of;
 use crate::worst::{Run, worst_case};
-use ceiling_kernel::{Kernel, Release, RunFault};
+use ceiling_kernel::{Kernel, Release, RunFault, above};
 use ceilings::{LockTable, Tabled};
 use std::alloc::{AllocError, Global};
 use task_sheet::TaskSet;

@@ -8,9 +8,9 @@ ghost use Rattle.ceiling_kernel.specs.Tick.{node_in, is_inside};
 ghost use Rattle.ceiling_kernel.specs.Bounds.{above_of};
 ghost use Rattle.miss.specs.Shown.{PassesThere, ends_inside, IsLowestFailing, AboveAllPass, ShowsNone, IsNoRun};
 
-use crate::orders::above;
 use crate::shown::NoRun;
 use assignment::members_of;
+use ceiling_kernel::above;
 use ceilings::Tabled;
 use response_time::{passes, passes_uninterrupted};
 use task_sheet::{Members, Section};

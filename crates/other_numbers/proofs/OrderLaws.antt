@@ -39,34 +39,3 @@ stand-from Test U order n H lt same = rw (same, slice-rest order n lt) (
   λ all. subst (λ o. AllStandBy Test U o) (drop_more order n 0 lt) all,
   λ all. subst (λ o. AllStandBy Test U o) (sym (drop_more order n 0 lt)) all,
 )
-
--- ---- a walk along an order, from the lowest up: these of it are left, and the next one is taken
-module _ (U : List Task) (order : List ℕ) (n : ℕ) (left : members.FinSet nat_cmp)
-    (part : IsPart (indexes_of left) (all_of U)) (rest : IsOrderOf (indexes_of left) (drop n order))
-    (lt : n < length order) where
-  abbrev low : ℕ
-  low = get_or order n 0
-
-  ahead : drop n order ≡ low ∷ drop (n + 1) order
-  ahead = drop_more order n 0 lt
-
-  low-first : IsOrderOf (indexes_of left) (low ∷ drop (n + 1) order)
-  low-first = subst (λ o. IsOrderOf (indexes_of left) o) ahead rest
-
-  low-member : indexes_of left low ≡ true
-  low-member = IsOrderOf-head (indexes_of left) low (drop (n + 1) order) low-first
-
-  pub low-inside : low < length U
-  low-inside = ltb-true low (length U) (part low low-member)
-
-  module _ (left' : members.FinSet nat_cmp) (removed : left' ≡ members.remove left low) where
-    less : indexes_of left' ≡ without_index (indexes_of left) low
-    less = ap indexes_of removed ∙ indexes_of-remove left low
-
-    pub part-next : IsPart (indexes_of left') (all_of U)
-    part-next = subst (λ X. IsPart X (all_of U)) (sym less)
-        (without-part_of (length U) (indexes_of left) low part)
-
-    pub rest-next : IsOrderOf (indexes_of left') (drop (n + 1) order)
-    rest-next = subst (λ X. IsOrderOf X (drop (n + 1) order)) (sym less)
-        (IsOrderOf-rest (indexes_of left) low (drop (n + 1) order) low-first)
