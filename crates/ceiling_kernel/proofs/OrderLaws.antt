@@ -4,6 +4,7 @@ use Rattle.std.proofs.Common.{arith, false, cond, ◌==◌, nat_lt, List, [], �
 use Rattle.std.proofs.Common.{count_by, All, eqb}
 use Rattle.std.proofs.lemmas.Bool.{cases_Bool, cases_lt, eq-eqb, ne_eqb, lt-ltb, le-ltb}
 use Rattle.task_sheet.proofs.Common.{below, IsOrderOf}
+use Rattle.ceiling_kernel.specs.Bounds.{after_of}
 use Rattle.ceiling_kernel.proofs.NodeLaws.{times, times-nil, times-here, times-not, times-grow}
 use Rattle.ceiling_kernel.proofs.SumLaws.{total, total-add, total-same, total-single, total-zero}
 
