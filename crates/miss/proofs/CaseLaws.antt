@@ -8,15 +8,15 @@ use Rattle.std.proofs.Math.Seq.{get_or-append_right}
 use Rattle.std.proofs.lemmas.List.{length-append, length-map, get_or_default}
 use Rattle.std.proofs.lemmas.Option.{get_or_from_slice_get, none-some}
 use Rattle.std.proofs.lemmas.Bool.{cases_lt, cases_eq, eq-eqb, true≢false, or_parts}
-use Rattle.task_sheet.proofs.Common.{Task, CriticalSection, IsValidSheet, IsSection, AreSections}
+use Rattle.task_sheet.proofs.Common.{Task, CriticalSection, IsValidSheet, AreSections}
 use Rattle.task_sheet.proofs.Common.{no_task, task_at, IsTaskSet, with_index, among, greatest_of}
 use Rattle.task_sheet.proofs.Common.{blocking_of}
 use Rattle.task_sheet.proofs.Below.{le-greatest_of}
 use Rattle.ceiling_kernel.proofs.Common.{Node, level_in_order, IsNode, lateness_of, above_of}
 use Rattle.ceiling_kernel.proofs.Common.{after_of}
 use Rattle.ceiling_kernel.proofs.AcceptLaws.{not_lt}
-use Rattle.ceiling_kernel.proofs.NodeLaws.{IsSound, sound, after_is_above}
-use Rattle.explain.specs.Blocking.{BlockerData, BlocksAt, IsFirstBlocker, IsBlockerOf}
+use Rattle.ceiling_kernel.proofs.NodeLaws.{sound, after_is_above}
+use Rattle.explain.specs.Blocking.{BlockerData, BlocksAt, IsBlockerOf}
 use Rattle.release_list.specs.declared.stream.Stream.{Stream}
 use Rattle.release_list.specs.Streams.{no_stream, stream_at}
 use Rattle.miss.specs.Misses.{section_of, lead_of, instant_of, member_stream, blocker_streams}

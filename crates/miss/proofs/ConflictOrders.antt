@@ -5,8 +5,8 @@ use Rattle.std.proofs.Math.Path.{fun_ext}
 use Rattle.std.proofs.lemmas.Bool.{cases_Bool, cases_eq, true≢false, eq-eqb, ne_eqb, ltb-true}
 use Rattle.std.proofs.lemmas.Bool.{lt-ltb, eqb-true, or_cases, or_left, or_right}
 use Rattle.task_sheet.proofs.Common.{Task, IsTaskSet, Indexes, IsPart, below, among, with_index}
-use Rattle.task_sheet.proofs.Common.{without_index, IsOrderOf, IsOrder, Stands, AllStand}
-use Rattle.task_sheet.proofs.Common.{IsObstruction, IsChosen, Passes}
+use Rattle.task_sheet.proofs.Common.{without_index, IsOrderOf, Stands, AllStand}
+use Rattle.task_sheet.proofs.Common.{IsObstruction, Passes}
 use Rattle.task_sheet.proofs.IndexLaws.{same_parts, without-parts, without-part_of, without-fewer}
 use Rattle.task_sheet.proofs.IndexLaws.{count_below, IsOrderOf-among, IsOrderOf-cons}
 use Rattle.task_sheet.proofs.Deciding.{NoneBelow, find_chosen}

@@ -1,5 +1,5 @@
 -- In each window from the instant as many jobs of a stream become ready as the analysis counts.
-use Rattle.std.proofs.Common.{◌≡◌, ℕ, zero, suc, ◌+◌, ◌-◌, ◌*◌, ◌<◌, ◌≤◌, inl, inr, true, false}
+use Rattle.std.proofs.Common.{◌≡◌, ℕ, zero, suc, ◌+◌, ◌-◌, ◌*◌, ◌<◌, ◌≤◌, inl, inr, true}
 use Rattle.std.proofs.Common.{◌&&◌, ◌==◌, nat_le, nat_lt, List, length, refl, ◌∙◌, ap, subst}
 use Rattle.std.proofs.Common.{if◌then◌else◌, arith}
 use Rattle.std.specs.Prelude.{unwrap_or}
@@ -17,8 +17,8 @@ use Rattle.ceiling_kernel.proofs.SumLaws.{total, total-sum}
 use Rattle.release_list.proofs.TaskNumbers.{found}
 use Rattle.release_list.specs.declared.stream.Stream.{Stream}
 use Rattle.release_list.specs.Streams.{stream_at, list_of, arrival_of, job_release}
-use Rattle.release_list.proofs.JobLaws.{IsIn, order_at, job_in}
-use Rattle.release_list.proofs.FitLaws.{IsFit, AreFit, some_period}
+use Rattle.release_list.proofs.JobLaws.{order_at, job_in}
+use Rattle.release_list.proofs.FitLaws.{AreFit, some_period}
 
 total-more : (g : ℕ → ℕ) (m d : ℕ) → total g m ≤ total g (m + d)
 unfolding total

@@ -1,5 +1,5 @@
 -- In the worst case a job finishes exactly at the least time that covers its work.
-use Rattle.std.proofs.Common.{◌≡◌, ℕ, ◌+◌, ◌-◌, ◌<◌, ◌≤◌, List, subst, arith}
+use Rattle.std.proofs.Common.{◌≡◌, ℕ, ◌+◌, ◌-◌, ◌<◌, List, subst, arith}
 use Rattle.task_sheet.specs.Demand.{blocking_of}
 use Rattle.ceiling_kernel.proofs.Common.{Node, Job, job_at, executed_before, IsNode, AreLegalJobs}
 use Rattle.ceiling_kernel.proofs.Common.{above_of}

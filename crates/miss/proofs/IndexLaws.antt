@@ -2,10 +2,10 @@
 use Rattle.std.proofs.Common.{◌≡◌, ◌∙◌, ℕ, zero, suc, ◌+◌, ◌<◌, ◌≤◌, Option, Some, None, List, []}
 use Rattle.std.proofs.Common.{◌∷◌, length, get_or, sym, ap, subst, arith}
 use Rattle.task_sheet.proofs.TaskLaws.{task_read}
-use Rattle.task_sheet.proofs.Common.{Task, CriticalSection, IsSection, AreSections, IsValidSheet}
+use Rattle.task_sheet.proofs.Common.{Task, CriticalSection, AreSections}
 use Rattle.task_sheet.proofs.Common.{no_task, task_at, IsTaskSet, limit_of, Indexes}
 use Rattle.std.proofs.lemmas.Option.{slice_get_within}
-use Rattle.explain.specs.Blocking.{BlockerData, BlocksAt, IsFirstBlocker, IsBlockerOf}
+use Rattle.explain.specs.Blocking.{BlockerData, BlocksAt, IsBlockerOf}
 use Rattle.miss.specs.Misses.{IsInSet}
 
 section_within : (from cost : ℕ) (ss : List CriticalSection) (p : ℕ) (s d : CriticalSection)

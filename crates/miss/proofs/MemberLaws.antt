@@ -1,7 +1,7 @@
 -- A task and those above it in an order.
 use Rattle.std.proofs.Common.{◌≡◌, ◌≢◌, ℕ, zero, suc, ◌+◌, ◌<◌, ◌≤◌, inl, inr, true, ◌==◌, nat_lt}
 use Rattle.std.proofs.Common.{List, [], ◌∷◌, length, get_or, drop, All, refl, sym, ◌∙◌, ap}
-use Rattle.std.proofs.Common.{◌-◌, subst, arith}
+use Rattle.std.proofs.Common.{subst, arith}
 use Rattle.std.proofs.lemmas.Bool.{cases_Bool, eq-eqb, ltb-true}
 use Rattle.std.proofs.lemmas.Bool.{ne_eqb}
 use Rattle.std.proofs.lemmas.List.{get_or_default, get_or-drop, length-drop}

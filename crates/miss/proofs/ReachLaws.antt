@@ -9,8 +9,8 @@ use Rattle.task_sheet.proofs.Common.{shares_lock, reaches}
 use Rattle.task_sheet.proofs.Below.{some_below-at, some_below-witness}
 use Rattle.ceiling_kernel.proofs.Common.{Node, level_in_order, is_inside, top_ceiling, held_ceiling}
 use Rattle.ceiling_kernel.proofs.Common.{IsNode, above_of}
-use Rattle.ceiling_kernel.proofs.NodeLaws.{IsSound, sound}
-use Rattle.ceiling_kernel.proofs.BoundLaws.{IsTopOf, top_of}
+use Rattle.ceiling_kernel.proofs.NodeLaws.{sound}
+use Rattle.ceiling_kernel.proofs.BoundLaws.{top_of}
 use Rattle.miss.specs.Exact.{EndsLow}
 use Rattle.miss.specs.Shown.{ends_inside}
 

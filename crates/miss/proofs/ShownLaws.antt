@@ -1,5 +1,5 @@
 -- What is shown of a task that must miss its deadline, and of one that doesn't pass and need not.
-use Rattle.std.proofs.Common.{◌≡◌, ℕ, ◌-◌, ◌<◌, ◌⊎◌, inl, inr, refl, arith}
+use Rattle.std.proofs.Common.{◌≡◌, ℕ, ◌-◌, ◌⊎◌, inl, inr, refl, arith}
 use Rattle.std.proofs.lemmas.Bool.{cases_lt}
 use Rattle.task_sheet.proofs.Common.{task_at, blocking_of, limit_of}
 use Rattle.task_sheet.proofs.ResponseLaws.{decide_covers}
@@ -11,7 +11,7 @@ use Rattle.miss.specs.declared.shown.Shown.TheVariants as shown
 use Rattle.miss.specs.declared.shown.NoRun.TheVariants as why
 use Rattle.miss.specs.Exact.{EndsLow}
 use Rattle.miss.specs.Misses.{MustMiss}
-use Rattle.miss.specs.Shown.{PassesThere, PassesUninterrupted, IsLowestFailing}
+use Rattle.miss.specs.Shown.{PassesThere, PassesUninterrupted}
 use Rattle.miss.specs.Shown.{AboveAllPass, IsShown}
 
 module _ (node : Node) (i : ℕ) where

@@ -2,7 +2,7 @@
 use Rattle.std.proofs.Common.{◌≡◌, ◌<◌, ◌≤◌, ◌∷◌, ◌++◌, ℕ, zero, suc, inl, inr, Some, Option, List}
 use Rattle.std.proofs.Common.{length, get_or, map, sym, ◌∙◌, ap, subst, arith, All, max, ◌+◌}
 use Rattle.std.proofs.lemmas.List.{get_or_default}
-use Rattle.task_sheet.proofs.Common.{Task, IsValidSheet, no_task, task_at, IsTaskSet, Indexes}
+use Rattle.task_sheet.proofs.Common.{Task, no_task, task_at, IsTaskSet, Indexes}
 use Rattle.task_sheet.proofs.Common.{among, greatest_of, limit_of}
 use Rattle.ceiling_kernel.specs.Waits.{lateness_of}
 use Rattle.ceiling_kernel.specs.declared.trace.RunFault.TheVariants as fault
@@ -10,8 +10,7 @@ use Rattle.explain.specs.Blocking.{BlockerData, IsBlockerOf}
 use Rattle.release_list.specs.declared.stream.Stream.{Stream}
 use Rattle.release_list.specs.Streams.{IsStream, no_stream, stream_at, list_of, count_refusal}
 use Rattle.release_list.proofs.TimeLaws.{many_from}
-use Rattle.miss.specs.Misses.{IsInSet, lead_of, instant_of, member_stream, blocker_streams}
-use Rattle.miss.specs.Misses.{worst_streams}
+use Rattle.miss.specs.Misses.{IsInSet, lead_of, member_stream, blocker_streams}
 use Rattle.miss.specs.Shown.{IsTooLong}
 use Rattle.miss.proofs.CaseLaws.{which}
 
