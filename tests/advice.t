@@ -643,7 +643,7 @@ Timers and interrupts ask for time, too, though no cost has theirs; a run doesn'
   $ asked 100 200 700 | said admit -
   $ asked 100 200 701 | said admit -
   note: costs, timers and interrupts over the periods come to more than 1: no order can pass
-  note: a alone can't be met: desk explain says why
+  note: a can't be met in any order: desk explain says why
   [3]
   $ asked 100 201 700 | said limits -
   note: costs, timers and interrupts over the periods come to more than 1: no order can pass
@@ -692,7 +692,7 @@ Beside a no, the conflict within the tasks that are printed; and that there is n
 
   $ desk admit examples/robot.toml
   infeasible motor
-  (on standard error) note: motor alone can't be met: desk explain says why
+  (on standard error) note: motor can't be met in any order: desk explain says why
   [3]
   $ printf '\n[[task]]\nname="d"\nperiod=50000\ndeadline=1000\ncost=1001\n' > late
   $ cat examples/three-tasks-too-tight.toml | said settings - --prefer deadline
@@ -700,7 +700,7 @@ Beside a no, the conflict within the tasks that are printed; and that there is n
   [3]
   $ cat examples/three-tasks-too-tight.toml late | desk settings - --prefer deadline
   infeasible c b a d
-  (on standard error) note: of these d alone can't be met: desk explain says why
+  (on standard error) note: of these d can't be met in any order: desk explain says why
   [3]
   $ sed 's/"d"/"B"/' late | cat examples/three-tasks-too-tight.toml - | desk admit -
   infeasible B a b c

@@ -179,11 +179,11 @@ the settings that the set doesn't have:
 
   $ printf 'thread b 30\nthread gone 17\nthread a 15\nthread c 20\n' | desk settings examples/three-tasks.toml --keep -
   parted a c
-  (on standard error) note: with c above a, and those below as they are, no order passes: without the line of one it may move
+  (on standard error) note: with c above a, and those below as they are, no order passes: leave out the line of one, and that one may move
   [3]
   $ printf 'thread hi 3\nthread lo 5\n' | desk settings examples/shared-lock.toml --keep -
   parted hi lo
-  (on standard error) note: with lo above hi, and those below as they are, no order passes: without the line of one it may move
+  (on standard error) note: with lo above hi, and those below as they are, no order passes: leave out the line of one, and that one may move
   [3]
 
 Where no order passes at all the set is infeasible, whatever it is to keep:

@@ -821,7 +821,7 @@ def conflict(tasks):
     least = sorted(analysis.least_conflict(tasks, greatest))
     of_these = "of these " if len(least) < len(greatest) else ""
     names = ", ".join(tasks[i].name for i in least)
-    how = "alone can't be met" if len(least) == 1 else "can't be met together"
+    how = "can't be met in any order" if len(least) == 1 else "can't be met together"
     return [f"{of_these}{names} {how}: desk explain says why"]
 
 
@@ -830,7 +830,7 @@ def parted(text):
     if not text.startswith("parted "):
         return []
     _, low, high = text.split()
-    return [f"with {high} above {low}, and those below as they are, no order passes: without the line of one it may move"]
+    return [f"with {high} above {low}, and those below as they are, no order passes: leave out the line of one, and that one may move"]
 
 
 def uncounted(tasks):

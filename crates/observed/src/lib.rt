@@ -23,4 +23,4 @@ pub use crate::observing::observe;
 pub use crate::pieces::{Housed, Piece, homes_of, piece_of, split_first};
 pub use crate::promises::{Promise, levels_of, promises_of};
 pub use crate::seen::Seen;
-pub use crate::sight::{Observed, Sight, observe_at, observe_places, observe_text};
+pub use crate::sight::{Observed, Sight, observe_at, observe_places};

@@ -4,7 +4,7 @@ ghost use Rattle.trace_text.specs.TraceFaults.{IsTraceFault};
 ghost use Rattle.trace_text.specs.TraceLines.{rows_at};
 ghost use Rattle.observed.specs.Observed.{observed_fault};
 ghost use Rattle.observed.specs.Promises.{promises_of};
-ghost use Rattle.observed.specs.Sights.{IsShownAt, IsSight, IsSightFault, IsSightFaultOf, IsSightOf};
+ghost use Rattle.observed.specs.Sights.{IsShownAt, IsSightFaultOf, IsSightOf};
 
 use crate::observing::observe;
 use crate::promises::{Promise, levels_of, promises_of};
@@ -72,12 +72,4 @@ pub fn observe_at(alloc: Global, set: &TaskSet, at: TextPlace<'_>) -> Result<Sig
             Ok(Sight::Seen(observed))
         }
     }
-}
-
-/// The same of a text.
-pub fn observe_text(alloc: Global, set: &TaskSet, text: &[u8]) -> Result<Sight, TraceFault>
-    ensures { MatchResult result
-        (λ sight. IsSight set.now text.now sight) (λ fault. IsSightFault set.now text.now fault) }
-{
-    observe_at(alloc, set, TextPlace::start(text))
 }

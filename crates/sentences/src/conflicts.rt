@@ -37,7 +37,7 @@ pub fn put_conflict<W: Write + Drop>(
         b"note:"
     };
     let said: &[u8] = if least.len() == 1 {
-        b" alone can't be met: desk explain says why\n"
+        b" can't be met in any order: desk explain says why\n"
     } else {
         b" can't be met together: desk explain says why\n"
     };
@@ -63,7 +63,7 @@ pub fn put_parted<W: Write + Drop>(
         high.as_str(),
         " above ",
         low.as_str(),
-        ", and those below as they are, no order passes: without the line of one it may move\n",
+        ", and those below as they are, no order passes: leave out the line of one, and that one may move\n",
     ];
     write_note(&pieces, out)
 }

@@ -6,5 +6,5 @@ mod reading;
 mod rows;
 
 pub use crate::fault::TraceFault;
-pub use crate::reading::{JOB_LIMIT, SLICE_LIMIT, TraceLines, read_trace, read_trace_at};
+pub use crate::reading::{JOB_LIMIT, SLICE_LIMIT, TraceLines, read_trace_at};
 pub use crate::rows::{TraceJob, TraceRow, TraceSlice};

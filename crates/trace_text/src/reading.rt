@@ -1,6 +1,6 @@
 //! Reading a trace.
 ghost use Rattle.std.specs.Prelude.{◌≡◌, ◌++◌, ◌∷◌, [], Ok, MatchResult, OnOk};
-ghost use Rattle.trace_text.specs.TraceFaults.{IsRowsFault, IsTraceFault, IsTraceIn, IsTraceOf, are_too_many, overlap_in, rows_fault, sequence_fault, trace_fault, unsorted_in};
+ghost use Rattle.trace_text.specs.TraceFaults.{IsRowsFault, IsTraceFault, IsTraceOf, are_too_many, overlap_in, rows_fault, sequence_fault, unsorted_in};
 ghost use Rattle.trace_text.specs.TraceLines.{jobs_of, parts_of, rows_at, slices_of};
 
 use crate::fault::TraceFault;
@@ -106,17 +106,8 @@ fn read_parts(alloc: Global, at: TextPlace<'_>) -> Result<TraceLines, TraceFault
     Ok(trace)
 }
 
-/// Reads a trace: the lines that a simulated run prints. Refused in the order of `TraceFault`, never as `NoJob`: that is
-/// for a set to say.
-pub fn read_trace(alloc: Global, text: &[u8]) -> Result<TraceLines, TraceFault>
-    ensures { MatchResult result
-        (λ trace. IsTraceIn text.now trace)
-        (λ fault. IsTraceFault fault (trace_fault text.now)) }
-{
-    read_trace_at(alloc, TextPlace::start(text))
-}
-
-/// The same of a text from a place on, whose lines count from the start of the text.
+/// Reads a trace from a place of a text on: the lines that a simulated run prints, counted from the start of the text. Refused
+/// in the order of `TraceFault`, never as `NoJob`: that is for a set to say.
 #[tactic(auto, using(crate::proofs::PartLaws::trace_of, crate::proofs::PartLaws::fault_of))]
 pub fn read_trace_at(alloc: Global, at: TextPlace<'_>) -> Result<TraceLines, TraceFault>
     ensures { MatchResult result
