@@ -1,4 +1,4 @@
-use Rattle.std.proofs.Common.{ℕ, ◌<◌, arith}
+use Rattle.std.proofs.Common.{◌<◌, arith}
 use Rattle.ceiling_kernel.proofs.OrderLaws.{after_of-all}
 use Rattle.chain_worst.proofs.aims.aim_of.Goals as goal
 
