@@ -134,12 +134,20 @@ class Seen:
         names = list(dict.fromkeys(name for name, _ in self.foreign))
         return max(names, key=lambda name: total(share for share in self.foreign if share[0] == name))
 
-    def delays(self, other, tolerance):
-        """Whether it may have delayed another job, or itself."""
+    def costs_others(self, tolerance):
+        """For how long others may wait for it who need not have."""
+        too_soon = self.gap is not None and self.closest - self.gap > tolerance
+        late = 0 if self.delay is None else self.delay - self.task.jitter
+        return max(0, self.lasted if self.strays else 0, self.executed if too_soon else 0, self.executed - self.may_execute, late)
+
+    def delays(self, other, blocks, least, tolerance):
+        """Whether it may have delayed another job, or itself, or blocked it, for so long at least."""
         ends = lambda one: one.job.arrival + one.lasted
         named = other.culprits() if total(other.below) - other.may_be_blocked > 0 else []
-        stands = self.levels[self.job.name] >= other.levels[other.job.name] or self.job.name in [name for name, _ in named]
-        return self.job.arrival < ends(other) and other.job.arrival < ends(self) and stands
+        own, others = self.levels[self.job.name], other.levels[other.job.name]
+        stands = (own == others if blocks else own >= others) or self.job.name in [name for name, _ in named]
+        overlaps = self.job.arrival < ends(other) and other.job.arrival < ends(self)
+        return overlaps and stands and least <= self.costs_others(tolerance)
 
 
 def cause(line):
@@ -153,10 +161,13 @@ def broken_lines(seen, tolerance):
     causes = [(one, next(one.own(tolerance))) for one in dict.fromkeys(one for one, _ in own)]
     first, behind = [], []
     for one in seen:
-        from_others = next((cause(line) for other, line in causes if other.delays(one, tolerance)), "")
+        named = lambda blocks, least: next((cause(line) for other, line in causes if other.delays(one, blocks, least, tolerance)), "")
         waits = list(one.waits(tolerance))
-        follows = {line: "" if line.startswith("foreign ") else from_others for line in waits}
-        follows |= {line: from_others or (cause(waits[0]) if waits else "") for line in one.late(tolerance)}
+        past = total(one.below) - one.may_be_blocked - tolerance
+        follows = {line: named(True, past) if line.startswith("blocked ") else "" for line in waits}
+        for line in one.late(tolerance):
+            alone = named(False, one.lasted - one.bound - tolerance)
+            follows[line] = alone or (cause(waits[0]) if waits else named(False, 0))
         first += [line for line, why in follows.items() if not why]
         behind += [line + why for line, why in follows.items() if why]
     return [line for _, line in own] + first + behind

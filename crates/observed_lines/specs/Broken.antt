@@ -4,7 +4,8 @@ use Rattle.std.specs.Fmt.{decimal}
 use Rattle.observed.specs.SeenJob.{SeenData}
 use Rattle.observed.specs.declared.culprits.Culprit.{Culprit}
 use Rattle.observed_lines.specs.Breaks.{breaks_blocking, breaks_bound, breaks_cost, breaks_foreign, breaks_idle, breaks_jitter, breaks_period, breaks_priority, may_idle}
-use Rattle.observed_lines.specs.Causes.{after_words, bound_cause, cause_of, is_among, sources_in}
+use Rattle.observed_lines.specs.Causes.{after_words, behind_in, is_among, sources_in}
+use Rattle.observed_lines.specs.declared.causes.Behind.{Behind}
 use Rattle.observed_lines.specs.declared.causes.Cause.{Cause}
 use Rattle.observed_lines.specs.declared.causes.Source.{Source}
 
@@ -113,22 +114,22 @@ foreign_words tolerance s =
     else []
 
 -- while it waited, nobody executed for longer than is left of that
-abbrev pub idle_words : (follows : Bool) → Option Cause → ℕ → SeenData → List ℕ
-idle_words follows cause tolerance s =
-    if breaks_idle tolerance s && is_among follows cause
-    then at_words (codes "idle") s ++ limit_words s.idle (may_idle s) ++ after_words cause
+abbrev pub idle_words : ℕ → SeenData → List ℕ
+idle_words tolerance s =
+    if breaks_idle tolerance s
+    then at_words (codes "idle") s ++ limit_words s.idle (may_idle s) ++ codes "\n"
     else []
 
--- the same, among what follows from nothing
+-- both, among what follows from nothing
 abbrev pub strange_words : (follows : Bool) → ℕ → SeenData → List ℕ
-strange_words follows tolerance s = if follows then [] else foreign_words tolerance s
+strange_words follows tolerance s =
+    if follows then [] else (foreign_words tolerance s ++ idle_words tolerance s)
 
 -- what a job breaks while it waits, and its bound: what follows from nothing, or what follows from something
-abbrev pub wait_words : (follows : Bool) → Option Cause → ℕ → SeenData → List ℕ
-wait_words follows cause tolerance s =
-    blocked_words follows cause tolerance s ++ strange_words follows tolerance s
-    ++ idle_words follows cause tolerance s
-    ++ bound_words follows (bound_cause tolerance cause s) tolerance s
+abbrev pub wait_words : (follows : Bool) → Behind → ℕ → SeenData → List ℕ
+wait_words follows behind tolerance s =
+    blocked_words follows behind.blocked tolerance s ++ strange_words follows tolerance s
+    ++ bound_words follows behind.bound tolerance s
 
 -- what each job breaks itself
 abbrev pub own_lines : ℕ → List SeenData → List ℕ
@@ -139,7 +140,7 @@ own_lines tolerance (s ∷ seen) = own_words tolerance s ++ own_lines tolerance 
 abbrev pub wait_lines : (follows : Bool) → (causes : List Source) → ℕ → List SeenData → List ℕ
 wait_lines follows causes tolerance [] = []
 wait_lines follows causes tolerance (s ∷ seen) =
-    wait_words follows (cause_of causes s) tolerance s ++ wait_lines follows causes tolerance seen
+    wait_words follows (behind_in tolerance causes s) tolerance s ++ wait_lines follows causes tolerance seen
 
 -- what each job breaks: first what it breaks itself, then what follows from nothing that is known, then what follows from
 -- something

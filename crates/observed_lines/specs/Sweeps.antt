@@ -13,4 +13,5 @@ come_from least (c ∷ cs) = nat_le least c.cause.arrival && come_from c.cause.a
 -- of both the same is the first that delays a job, of those that arrive no sooner than a time
 abbrev pub Agree : ℕ → List Source → List Source → Type 0
 Agree time xs ys =
-    (s : SeenData) → time ≤ s.arrival → find (λ c. delays c s) xs ≡ find (λ c. delays c s) ys
+    (blocks : Bool) (least : ℕ) (s : SeenData) → time ≤ s.arrival
+    → find (λ c. delays blocks least c s) xs ≡ find (λ c. delays blocks least c s) ys

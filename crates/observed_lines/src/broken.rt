@@ -6,8 +6,8 @@ use crate::breaks::{
     breaks_blocking, breaks_bound, breaks_cost, breaks_foreign, breaks_idle, breaks_jitter,
     breaks_period, breaks_priority, may_idle,
 };
-use crate::causes::{Cause, Source, bound_cause, is_among, push_after, sources_in};
-use crate::sweep::{are_in_order, cause_of, move_on};
+use crate::causes::{Behind, Cause, Source, is_among, push_after, sources_in};
+use crate::sweep::{Known, are_in_order, behind_of, move_on};
 use observed::{Culprit, Seen};
 use std::alloc::{AllocError, Global};
 use task_sheet::Name;
@@ -225,25 +225,19 @@ fn push_foreign(text: &mut String, tolerance: u64, seen: &Seen) -> Result<(), Al
 }
 
 // While it waited, nobody executed for longer than what is left of that.
-fn push_idle(
-    text: &mut String,
-    follows: bool,
-    cause: &Option<Cause>,
-    tolerance: u64,
-    seen: &Seen,
-) -> Result<(), AllocError>
+fn push_idle(text: &mut String, tolerance: u64, seen: &Seen) -> Result<(), AllocError>
     ensures { OnOk result (string_bytes text.new
-        ≡ string_bytes text.old ++ idle_words follows cause.now tolerance seen.now) }
+        ≡ string_bytes text.old ++ idle_words tolerance seen.now) }
 {
-    if !(breaks_idle(tolerance, seen) && is_among(follows, cause)) {
+    if !breaks_idle(tolerance, seen) {
         return Ok(());
     }
     push_at(text, "idle", seen)?;
     push_limit(text, u128::from(seen.idle), may_idle(seen))?;
-    push_after(text, cause)
+    text.push_str("\n")
 }
 
-// Whom it waited for that the set doesn't have, among what follows from nothing.
+// Both, among what follows from nothing.
 fn push_strange(
     text: &mut String,
     follows: bool,
@@ -254,28 +248,26 @@ fn push_strange(
         ≡ string_bytes text.old ++ strange_words follows tolerance seen.now) }
 {
     if follows {
-        Ok(())
-    } else {
-        push_foreign(text, tolerance, seen)
+        return Ok(());
     }
+    push_foreign(text, tolerance, seen)?;
+    push_idle(text, tolerance, seen)
 }
 
 // What a job breaks while it waits, and its bound: what follows from nothing, or what follows from something.
 fn push_wait(
     text: &mut String,
     follows: bool,
-    cause: &Option<Cause>,
+    behind: Behind,
     tolerance: u64,
     seen: &Seen,
 ) -> Result<(), AllocError>
     ensures { OnOk result (string_bytes text.new
-        ≡ string_bytes text.old ++ wait_words follows cause.now tolerance seen.now) }
+        ≡ string_bytes text.old ++ wait_words follows behind tolerance seen.now) }
 {
-    push_blocked(text, follows, cause, tolerance, seen)?;
+    push_blocked(text, follows, &behind.blocked, tolerance, seen)?;
     push_strange(text, follows, tolerance, seen)?;
-    push_idle(text, follows, cause, tolerance, seen)?;
-    let cause = bound_cause(tolerance, cause, seen);
-    push_bound(text, follows, &cause, tolerance, seen)
+    push_bound(text, follows, &behind.bound, tolerance, seen)
 }
 
 // What each job breaks itself.
@@ -308,8 +300,13 @@ fn push_waits(
     for job in seen {
         rest = move_on(causes, &mut live, rest, in_order, reached, job.arrival)?;
         reached = job.arrival;
-        let cause = cause_of(&live, rest, in_order, job);
-        push_wait(text, follows, &cause, tolerance, job)?;
+        let known = Known {
+            live: &live,
+            rest,
+            in_order,
+        };
+        let behind = behind_of(known, tolerance, job);
+        push_wait(text, follows, behind, tolerance, job)?;
     }
     Ok(())
 }

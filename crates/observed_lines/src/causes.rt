@@ -1,7 +1,7 @@
 //! From what a broken promise of a job follows.
 ghost use Rattle.std.specs.Prelude.{◌≡◌, ◌++◌, ◌==◌, IfOk, OnOk, string_bytes};
 ghost use Rattle.std.specs.List.{list_any};
-ghost use Rattle.observed_lines.specs.Causes.{after_words, as_cause, bound_cause, breaks_own, delays, is_among, is_there, may_delay, overlap, own_of, source_of, sources_in, wait_of, word_of};
+ghost use Rattle.observed_lines.specs.Causes.{after_words, as_cause, breaks_own, costs_others, delays, is_among, is_there, late_by, may_delay, overlap, own_of, source_of, sources_in, wait_of, word_of};
 
 use crate::breaks::{
     breaks_blocking, breaks_cost, breaks_foreign, breaks_idle, breaks_jitter, breaks_period,
@@ -31,12 +31,28 @@ pub(crate) struct Cause {
     pub arrival: u64,
 }
 
-// A job that breaks something itself: its task's level, and for how long it was there, in microseconds.
+// A job that breaks something itself: its task's level, and for how long it was there, and others may wait for it who need
+// not have, in microseconds.
 #[derive(Clone, Copy)]
 pub(crate) struct Source {
     pub cause: Cause,
     pub level: usize,
     pub lasted: u64,
+    pub costs: u128,
+}
+
+// From what follows what a job breaks while it waits, and that it took longer than its bound.
+#[derive(Clone, Copy)]
+pub(crate) struct Behind {
+    pub blocked: Option<Cause>,
+    pub bound: Option<Cause>,
+}
+
+// What is asked of a job: whether it delays another, or blocks it, for so long at least, in microseconds.
+#[derive(Clone, Copy)]
+pub(crate) struct Asked {
+    pub blocks: bool,
+    pub least: u128,
 }
 
 // It breaks something itself, or its thread's settings or its timer do.
@@ -75,6 +91,35 @@ fn as_cause(what: Broken, seen: &Seen) -> Cause
     }
 }
 
+// How late it was ready, past its jitter.
+fn late_by(seen: &Seen) -> u64
+    ensures { result ≡ late_by seen.now }
+{
+    match seen.delay {
+        Some(delay) => delay.saturating_sub(seen.promise.jitter),
+        None => 0,
+    }
+}
+
+// For how long others may wait for it who need not have.
+fn costs_others(tolerance: u64, seen: &Seen) -> u128
+    ensures { result ≡ costs_others tolerance seen.now }
+{
+    let stray = if breaks_priority(seen) {
+        seen.lasted
+    } else {
+        0
+    };
+    let soon = if breaks_period(tolerance, seen) {
+        seen.executed
+    } else {
+        0
+    };
+    let over = seen.executed.saturating_sub(seen.may_execute);
+    let late = u128::from(late_by(seen));
+    u128::from(stray).max(soon.max(over.max(late)))
+}
+
 // The first of these, as a cause.
 fn source_of(tolerance: u64, seen: &Seen) -> Source
     ensures { result ≡ source_of tolerance seen.now }
@@ -83,6 +128,7 @@ fn source_of(tolerance: u64, seen: &Seen) -> Source
         cause: as_cause(own_of(tolerance, seen), seen),
         level: seen.level,
         lasted: seen.lasted,
+        costs: costs_others(tolerance, seen),
     }
 }
 
@@ -125,22 +171,27 @@ fn has_level(culprits: &[Culprit], level: usize) -> bool
     culprits.iter().any(|culprit| culprit.level == level)
 }
 
-// Its task stands no lower than the other's, or is one of those that are named to have blocked it.
-fn may_delay(source: &Source, seen: &Seen) -> bool
-    ensures { result ≡ may_delay source.now seen.now }
+// Its task stands no lower than the other's, or to block it is the same, or is one of those that are named to have blocked it.
+fn may_delay(blocks: bool, source: &Source, seen: &Seen) -> bool
+    ensures { result ≡ may_delay blocks source.now seen.now }
 {
-    seen.level <= source.level || has_level(seen.culprits(), source.level)
+    let stands = if blocks {
+        seen.level == source.level
+    } else {
+        seen.level <= source.level
+    };
+    stands || has_level(seen.culprits(), source.level)
 }
 
-// A job delays another, or itself.
-pub(crate) fn delays(source: &Source, seen: &Seen) -> bool
-    ensures { result ≡ delays source.now seen.now }
+// A job delays, or blocks, another, or itself, for so long at least.
+pub(crate) fn delays(asked: Asked, source: &Source, seen: &Seen) -> bool
+    ensures { result ≡ delays asked.blocks asked.least source.now seen.now }
 {
-    overlap(source, seen) && may_delay(source, seen)
+    overlap(source, seen) && may_delay(asked.blocks, source, seen) && asked.least <= source.costs
 }
 
 // What it broke while it waited.
-fn wait_of(tolerance: u64, seen: &Seen) -> Option<Cause>
+pub(crate) fn wait_of(tolerance: u64, seen: &Seen) -> Option<Cause>
     ensures { result ≡ wait_of tolerance seen.now }
 {
     if breaks_blocking(tolerance, seen) {
@@ -151,16 +202,6 @@ fn wait_of(tolerance: u64, seen: &Seen) -> Option<Cause>
         Some(as_cause(Broken::Idle, seen))
     } else {
         None
-    }
-}
-
-// From what follows that it took longer than its bound.
-pub(crate) fn bound_cause(tolerance: u64, cause: &Option<Cause>, seen: &Seen) -> Option<Cause>
-    ensures { result ≡ bound_cause tolerance cause.now seen.now }
-{
-    match cause {
-        Some(cause) => Some(*cause),
-        None => wait_of(tolerance, seen),
     }
 }
 

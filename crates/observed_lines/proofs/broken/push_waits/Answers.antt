@@ -1,13 +1,12 @@
-use Rattle.std.proofs.Common.{◌≡◌, ◌∙◌, ◌+◌, ◌≤◌, ◌++◌, ◌∷◌, ℕ, List, Option, ap, sym, arith, append_assoc, drop, option_map, string_bytes}
+use Rattle.std.proofs.Common.{◌≡◌, ◌∙◌, ◌+◌, ◌≤◌, ◌++◌, ◌∷◌, ℕ, List, ap, sym, arith, append_assoc, drop, string_bytes}
 use Rattle.std.proofs.lemmas.List.{drop_more}
-use Rattle.std.specs.List.{find}
-use Rattle.std.specs.Option.{option_or}
 use Rattle.observed.specs.SeenJob.{SeenData}
 use Rattle.observed_lines.specs.Broken.{wait_lines, wait_words}
-use Rattle.observed_lines.specs.Causes.{cause_of, delays}
-use Rattle.observed_lines.specs.declared.causes.Cause.{Cause}
+use Rattle.observed_lines.specs.Causes.{behind_in}
+use Rattle.observed_lines.specs.Sweeps.{Agree}
+use Rattle.observed_lines.specs.declared.causes.Behind.{Behind}
 use Rattle.observed_lines.specs.declared.causes.Source.{Source}
-use Rattle.observed_lines.proofs.SweepLaws.{cause_same}
+use Rattle.observed_lines.proofs.SweepLaws.{later_agree}
 use Rattle.observed_lines.proofs.broken.push_waits.Goals as goal
 
 pub loop-job-preserved : goal.loop-job-preserved
@@ -18,7 +17,7 @@ loop-job-preserved c =
     let causes : List Source = c.args.causes.now in
     let rest : List Source = c.in_ok-rest.rest.now in
     let live : List Source = c.move_on.new.live.items in
-    let words = λ (o : Option Cause). wait_words c.args.follows o c.args.tolerance job in
+    let words = λ (o : Behind). wait_words c.args.follows o c.args.tolerance job in
     let lines = λ (js : List SeenData). wait_lines c.args.follows causes c.args.tolerance js in
     let text : List ℕ = string_bytes c.loop-job.text in
     let later : List ℕ = lines (drop (k + 1) seen) in
@@ -26,14 +25,14 @@ loop-job-preserved c =
     ∙ ap (λ (x : SeenData). x ∷ drop (k + 1) seen) (sym c.job-item.is) in
     let soon : c.job.inside.arrival ≤ job.arrival =
     omega (arith, ap (λ (x : SeenData). x.arrival) c.job.view_is) in
-    let cause : c.cause_of-cause.result ≡ cause_of causes job = c.cause_of-cause.ensures
-    ∙ (ap (λ (xs : List Source). option_map (λ (x : Source). x.cause)
-    (option_or (find (λ d. delays d job) xs) (find (λ d. delays d job) rest))) c.deref.ensures.value
-    ∙ cause_same c.job.inside.arrival live rest causes job c.in_ok-rest.ensures.same soon) in
+    let same : Agree job.arrival (c.deref.result.now ++ rest) causes =
+    rw c.deref.ensures.value (later_agree _ _ (live ++ rest) causes soon c.in_ok-rest.ensures.same) in
+    let behind : c.behind_of-behind.result ≡ behind_in c.args.tolerance causes job =
+    c.behind_of-behind.ensures causes same in
     record {
       whole = ap (λ (t : List ℕ). t ++ later) (c.in_ok-push_wait.ensures
-          ∙ ap (λ (o : Option Cause). text ++ words o) cause)
-          ∙ (append_assoc text (words (cause_of causes job)) later
+          ∙ ap (λ (o : Behind). text ++ words o) behind)
+          ∙ (append_assoc text (words (behind_in c.args.tolerance causes job)) later
           ∙ (ap (λ (js : List SeenData). text ++ lines js) (sym here)
           ∙ c.loop-job.invariant.whole));
       known = c.in_ok-rest.ensures.same;

@@ -12,6 +12,8 @@ use Rattle.observed_lines.proofs.sweep.first_ahead.Goals as goal
 pub returns-then-is_behind : goal.returns-then-is_behind
 returns-then-is_behind c =
     let s : SeenData = c.args.seen.now in
+    let b : Bool = c.args.asked.blocks in
+    let l : ℕ = c.args.asked.least in
     let k : ℕ = c.loop-source.source-index in
     let cs : List Source = c.args.causes.now in
     let source : Source = c.source-item.result in
@@ -23,15 +25,17 @@ returns-then-is_behind c =
     let order : come_from source.cause.arrival more ≡ true =
     (and_parts (nat_le 0 source.cause.arrival) (come_from source.cause.arrival more)
     (ap (come_from 0) (sym here) ∙ c.loop-source.invariant.order c.if-in_order.true)).1 in
-    let none : find (λ d. delays d s) (source ∷ more) ≡ None =
-    ap (λ (b : Bool). cond b (Some source) (find (λ d. delays d s) more)) (later source s le)
-    ∙ none_ahead s source.cause.arrival more le order in
-    sym none ∙ (ap (λ (xs : List Source). find (λ d. delays d s) xs) (sym here)
+    let none : find (λ d. delays b l d s) (source ∷ more) ≡ None =
+    ap (λ (x : Bool). cond x (Some source) (find (λ d. delays b l d s) more)) (later b l source s le)
+    ∙ none_ahead b l s source.cause.arrival more le order in
+    sym none ∙ (ap (λ (xs : List Source). find (λ d. delays b l d s) xs) (sym here)
     ∙ c.loop-source.invariant.first)
 
 pub loop-source-preserved : goal.loop-source-preserved
 loop-source-preserved c =
     let s : SeenData = c.args.seen.now in
+    let b : Bool = c.args.asked.blocks in
+    let l : ℕ = c.args.asked.least in
     let k : ℕ = c.loop-source.source-index in
     let cs : List Source = c.args.causes.now in
     let source : Source = c.source-item.result in
@@ -42,8 +46,8 @@ loop-source-preserved c =
       order = λ is. lower source.cause.arrival more
           (and_parts (nat_le 0 source.cause.arrival) (come_from source.cause.arrival more)
           (ap (come_from 0) (sym here) ∙ c.loop-source.invariant.order is)).1;
-      first = sym (ap (λ (b : Bool). cond b (Some source) (find (λ d. delays d s) more))
+      first = sym (ap (λ (x : Bool). cond x (Some source) (find (λ d. delays b l d s) more))
           (sym c.delays.ensures ∙ c.if-delays.false))
-          ∙ (ap (λ (xs : List Source). find (λ d. delays d s) xs) (sym here)
+          ∙ (ap (λ (xs : List Source). find (λ d. delays b l d s) xs) (sym here)
           ∙ c.loop-source.invariant.first);
     }

@@ -9,7 +9,7 @@ pub returns-clause-same : goal.returns-clause-same
 returns-clause-same c =
     let live : List Source = c.args.live.now.items in
     let rest : List Source = c.args.rest.now in
-    λ s le. c.in_ok-left.ensures.same s le
-    ∙ (ap (λ (xs : List Source). find (λ d. delays d s) (xs ++ rest)) c.keep.ensures
-    ∙ (kept_agree c.args.time live rest s le
-    ∙ c.requires.known s (omega (arith, c.if-time-reached.false, le))))
+    λ b l s le. c.in_ok-left.ensures.same b l s le
+    ∙ (ap (λ (xs : List Source). find (λ d. delays b l d s) (xs ++ rest)) c.keep.ensures
+    ∙ (kept_agree c.args.time live rest b l s le
+    ∙ c.requires.known b l s (omega (arith, c.if-time-reached.false, le))))

@@ -15,10 +15,10 @@ loop-source-preserved-in_ok-push c =
     let here : c.loop-source.left.now ≡ source ∷ more = search rules in
     let grown : c.push.new.self.items ≡ live ++ source ∷ [] = c.in_ok-push.ensures.items in
     record {
-      same = λ s le. ap (λ (xs : List Source). find (λ d. delays d s) (xs ++ more)) grown
-          ∙ (push_agree c.args.time live source more s le
-          ∙ (ap (λ (xs : List Source). find (λ d. delays d s) (live ++ xs)) (sym here)
-          ∙ c.loop-source.invariant.same s le));
+      same = λ b l s le. ap (λ (xs : List Source). find (λ d. delays b l d s) (xs ++ more)) grown
+          ∙ (push_agree c.args.time live source more b l s le
+          ∙ (ap (λ (xs : List Source). find (λ d. delays b l d s) (live ++ xs)) (sym here)
+          ∙ c.loop-source.invariant.same b l s le));
       order = λ is. lower source.cause.arrival more
           (and_parts (nat_le 0 source.cause.arrival) (come_from source.cause.arrival more)
           (ap (come_from 0) (sym here) ∙ c.loop-source.invariant.order is)).1;
@@ -31,9 +31,9 @@ loop-source-preserved c =
     let more : List Source = c.in-Some.more.now in
     let here : c.loop-source.left.now ≡ source ∷ more = search rules in
     record {
-      same = λ s le. skip_agree c.args.time live source more (sym c.is_there.ensures ∙ c.if-is_there.false) s le
-          ∙ (ap (λ (xs : List Source). find (λ d. delays d s) (live ++ xs)) (sym here)
-          ∙ c.loop-source.invariant.same s le);
+      same = λ b l s le. skip_agree c.args.time live source more (sym c.is_there.ensures ∙ c.if-is_there.false) b l s le
+          ∙ (ap (λ (xs : List Source). find (λ d. delays b l d s) (live ++ xs)) (sym here)
+          ∙ c.loop-source.invariant.same b l s le);
       order = λ is. lower source.cause.arrival more
           (and_parts (nat_le 0 source.cause.arrival) (come_from source.cause.arrival more)
           (ap (come_from 0) (sym here) ∙ c.loop-source.invariant.order is)).1;
