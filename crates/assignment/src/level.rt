@@ -59,9 +59,9 @@ pub struct NotAll {
 /// What a level comes to.
 #[derive(Drop)]
 pub enum Closed {
-    /// The passing candidate of least rank, with the failures of all candidates of smaller rank, by rank.
+    /// The candidate of least rank that may stand, with the failures of all candidates of smaller rank, by rank.
     Chosen(LevelRecord),
-    /// No candidate passes: the failures of all, by rank.
+    /// None may stand: the failures of all, by rank.
     Obstruction(Vec<Failure>),
 }
 
@@ -240,7 +240,7 @@ impl Level {
         }
     }
 
-    /// Whether some candidate passes while all of smaller rank have a finding, or all candidates have one.
+    /// Whether all candidates have a finding, or all up to one that may stand.
     pub fn decided(&self) -> bool
         ensures { IsTrue result ↔ IsDecided self.now }
     {

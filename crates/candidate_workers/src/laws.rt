@@ -21,7 +21,7 @@ pub fn claims_find_all()
         0 < times (candidate_at level claimed.least) tasks }
 {}
 
-/// A question computes no more demands than the bound of its task, whatever tasks are above it.
+/// The bound on a task's demands holds whatever tasks are above it.
 pub fn demands_are_bounded()
     ensures { (set : List Task) (task : Task) (above : Indexes) →
         evaluation_bound set above (limit_of task) ≤ demands_on set task }

@@ -14,7 +14,7 @@ use Rattle.observed.specs.Promises.{number_at}
 use Rattle.kept_beside.specs.ShownSlices.{AreShown, ShowTicks}
 use Rattle.kept_beside.specs.ShownJobs.{AreJobLines}
 
--- the numbers of the threads at these levels rise
+-- the numbers of the threads at these levels don't fall
 abbrev pub Rise : (numbers : List ℕ) → List PlaceData → Type 0
 Rise numbers places =
     (low high : ℕ) → low ≤ high → high < length places
