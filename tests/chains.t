@@ -262,11 +262,11 @@ later than a period after the one before, but for what is let pass:
   $ desk observe two.toml trace
   task in 2 400 400 3000 2000 400 500
   task out 4 100 100 1000 1000 100 100
+  steady in 3000 3000 of 2000
   chain there 4 age 3500 reaction 3500 bound 3500
   chain back 1 age 1100 reaction - bound 3500
   chain alone 2 age 3100 reaction 3100 bound 2500
   age alone 3100 of 2500
-  steady in 3000 3000 of 2000
   [3]
   $ desk observe --tolerance 1000 two.toml trace | tail -n 1
   chain alone 2 age 3100 reaction 3100 bound 2500
@@ -524,13 +524,13 @@ An age may be past the bound by as much; where `cam` says when its jobs were rea
   $ seen cam:0:0 act:1499 cam:11500:11500 cam:20000:20000 act:21499 cam:30000:30000 cam:40000:40000 act:41499 cam:50000:50000 cam:61000:61000 | desk observe late.toml - > shown
   [3]
   $ tail -n 4 shown
-  chain late 2 age 61499 reaction 61499 bound 60000
-  age late 61499 of 60000
   steady cam 11500 11500 of 10000
   steady cam 61000 11000 of 10000
+  chain late 2 age 61499 reaction 61499 bound 60000
+  age late 61499 of 60000
   $ seen cam:0 act:1499 cam:11500 cam:20000 act:21499 cam:30000 cam:40000 act:42100 cam:50000 cam:61000 cam:71000 | desk observe late.toml - > shown
   [3]
   $ tail -n 3 shown
+  steady act 42100 20601 of 20000
   chain late 2 age 62100 reaction 62100 bound 60000
   age late 62100 of 62000
-  steady act 42100 20601 of 20000

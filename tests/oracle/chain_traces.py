@@ -5,12 +5,18 @@ import chain_runs
 
 
 def lines_of(tasks, order, responses, owned, jobs, seen, end, tolerance):
-    """A line for each chain, and of one that gets too old another; then one for each job of their tasks that
-    isn't steady. Whether there are any but the first is said, too."""
+    """A line for each job of their tasks that isn't steady, then one for each chain, and of one that gets too old
+    another. Whether there are any but those of chains is said, too."""
     starts = {}
     for part, owner in owned:
         starts.setdefault(owner, part.start)
-    lines, broken = [], []
+    linked = {name for chain in tasks.chains for name in chain.tasks}
+    lines = []
+    for one in seen:
+        most = one.task.period + (one.task.jitter if one.job.ready is None else 0)
+        if one.job.name in linked and one.gap is not None and one.gap - most > tolerance:
+            lines.append(f"steady {one.job.name} {one.job.arrival} {one.gap} of {most}")
+    broken = list(lines)
     for chain in tasks.chains:
         outputs = outputs_of(chain, jobs, starts) if chain.writes == "finish" else deadline_outputs(tasks, chain, jobs, end)
         samples = [(finish, sample) for finish, sample in outputs if sample is not None]
@@ -24,12 +30,6 @@ def lines_of(tasks, order, responses, owned, jobs, seen, end, tolerance):
         most = None if held is None else held + late
         if age is not None and most is not None and age - most > tolerance:
             broken.append(f"age {chain.name} {age} of {most}")
-            lines.append(broken[-1])
-    linked = {name for chain in tasks.chains for name in chain.tasks}
-    for one in seen:
-        most = one.task.period + (one.task.jitter if one.job.ready is None else 0)
-        if one.job.name in linked and one.gap is not None and one.gap - most > tolerance:
-            broken.append(f"steady {one.job.name} {one.job.arrival} {one.gap} of {most}")
             lines.append(broken[-1])
     return lines, bool(broken)
 

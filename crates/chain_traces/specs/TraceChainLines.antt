@@ -128,12 +128,12 @@ scene_in tolerance U promises seen trace = record {
   end = end_of trace.slices.items trace.jobs.items;
 }
 
--- the lines of chains in it: of each what it comes to, and then the jobs of their tasks that aren't steady, by arrivals
+-- the lines of chains in it: first the jobs of their tasks that aren't steady, by arrivals, then of each what it comes to
 abbrev pub chains_said : (tolerance : ℕ) → List Task → List ChainData → List Promise → List SeenData → TraceLines
     → List ℕ
 chains_said tolerance U chains promises seen trace =
-    chain_lines (scene_in tolerance U promises seen trace) chains
-    ++ steady_lines tolerance chains seen
+    steady_lines tolerance chains seen
+    ++ chain_lines (scene_in tolerance U promises seen trace) chains
 
 -- none gets too old, and each such job is steady
 abbrev pub are_kept : (tolerance : ℕ) → List Task → List ChainData → List Promise → List SeenData → TraceLines → Bool

@@ -223,8 +223,8 @@ pub fn see_chains(
         end: end_of(&trace.slices, &trace.jobs),
     };
     let mut text = String::new(alloc);
-    let are_fresh = see_all(alloc, &mut text, &scene, chains)?;
     push_unsteady(&mut text, tolerance, chains, &observed.seen)?;
+    let are_fresh = see_all(alloc, &mut text, &scene, chains)?;
     let are_kept = are_fresh && !any_unsteady(tolerance, chains, &observed.seen);
     Ok(ChainsSeen { text, are_kept })
 }
