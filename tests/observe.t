@@ -194,12 +194,28 @@ that it meets at no time it doesn't delay, nor those above it:
   $ observed '0 1000 hi\n1000 4000 mid\n4000 5000 hi\n8000 9000 mid\njob hi 0 1000\njob mid 1000 9000\njob hi 4000 5000\n' | grep -v task
   cost mid 1000 4000 of 2000
   period hi 4000 4000 of 10000
-  idle mid 1000 3000 after cost mid 1000
+  idle mid 1000 3000
   bound mid 1000 8000 of 7000 after cost mid 1000
   $ observed '0 1001 hi\n1001 8300 lo\n8300 10300 mid\njob hi 0 1001\njob lo 1001 -\njob mid 1001 10300\n' | grep -v task
   cost hi 0 1001 of 1000
   blocked mid 1001 7299 of 4000 by lo 7299
   bound mid 1001 9299 of 7000 after blocked mid 1001
+
+An overrun shows why others wait for no longer than it lasts: one of a microsecond not for 7 ms in which nobody executed, nor
+one of 100 for 500 in which lo executed too long, but one of 600:
+
+  $ observed '0 1001 hi\n1001 2001 mid\n9001 10001 mid\njob hi 0 1001\njob mid 0 10001\n' | grep -v task
+  cost hi 0 1001 of 1000
+  idle mid 0 7000
+  bound mid 0 10001 of 7000 after idle mid 0
+  $ observed '0 20100 lo\n20100 21100 hi\njob lo 0 20100\njob hi 15600 21100\n' | grep -v task
+  cost lo 0 20100 of 20000
+  blocked hi 15600 4500 of 4000 by lo 4500
+  bound hi 15600 5500 of 5000 after blocked hi 15600
+  $ observed '0 20600 lo\n20600 21600 hi\njob lo 0 20600\njob hi 16100 21600\n' | grep -v task
+  cost lo 0 20600 of 20000
+  blocked hi 16100 4500 of 4000 by lo 4500 after cost lo 0
+  bound hi 16100 5500 of 5000 after cost lo 0
 
 A task without a job is named, unless this is meant; an empty trace is no yes:
 
@@ -334,7 +350,7 @@ sched script` of a run of examples/posix/measure.c, with a thread `foreign` abov
   foreign lo 0 36051 by foreign
   foreign hi 997 6009 by foreign
   foreign mid 999 12015 by foreign
-  bound lo 0 59359 of 27000 after cost lo 0
+  bound lo 0 59359 of 27000 after foreign lo 0
   bound hi 997 10228 of 5000 after foreign hi 997
   bound mid 999 18280 of 7000 after foreign mid 999
   [3]

@@ -10,7 +10,7 @@ use Rattle.observed_lines.specs.Breaks.{breaks_any, breaks_blocking, breaks_boun
 use Rattle.observed_lines.specs.Breaks.{breaks_foreign, breaks_idle, breaks_jitter, breaks_period, breaks_priority}
 use Rattle.observed_lines.specs.Breaks.{is_kept, is_over, is_short, may_idle}
 use Rattle.observed_lines.specs.Broken.{broken_lines, own_lines, own_words, wait_lines, wait_words}
-use Rattle.observed_lines.specs.Causes.{cause_of, sources_in}
+use Rattle.observed_lines.specs.Causes.{behind_in, sources_in}
 use Rattle.kept_promises.specs.KeptPromises.{Keeps, KeepsToDemand}
 
 -- a time that isn't short of a limit, is short of it by no tolerance
@@ -77,8 +77,8 @@ module _ (tolerance : ℕ) (s : SeenData) (keeps : KeepsToDemand s) where
 
   -- neither among what follows from something, nor among what doesn't
   waits : (follows : Bool) (all : List SeenData)
-      → wait_words follows (cause_of (sources_in tolerance all) s) tolerance s ≡ []
-  waits true all = rw (bound, blocking, idle) refl
+      → wait_words follows (behind_in tolerance (sources_in tolerance all) s) tolerance s ≡ []
+  waits true all = rw (bound, blocking) refl
   waits false all = rw (bound, blocking, foreign, idle) refl
 
 -- behind the first, too
@@ -105,7 +105,7 @@ none_waits : (tolerance : ℕ) (follows : Bool) (every seen : List SeenData) →
     → wait_lines follows (sources_in tolerance every) tolerance seen ≡ []
 none_waits tolerance follows every [] all = refl
 none_waits tolerance follows every (s ∷ seen) all =
-    let here : wait_words follows (cause_of (sources_in tolerance every) s) tolerance s ≡ [] =
+    let here : wait_words follows (behind_in tolerance (sources_in tolerance every) s) tolerance s ≡ [] =
     waits tolerance s (all 0 s (omega arith)) follows every in
     ap (λ (words : List ℕ). words ++ wait_lines follows (sources_in tolerance every) tolerance seen) here
     ∙ none_waits tolerance follows every seen (rest_keeps s seen all)
