@@ -310,6 +310,16 @@ And what is wrong with a chain:
   what a bound is the sum of: desk explain, on these documents
   refused: COMMIT "too short" is not admitted
 
+Offsets that no longer fit a period:
+
+  $ fresh cy && sed -i '$a offsets = [0, 4500]' cy/teams/cam.toml && save cy 'on a clock' && push cy | head -n 1
+  admitted 4
+  $ fresh ann && sed -i 's/^\(period\|deadline\) = .*/\1 = 4400/' ann/teams/arm.toml && save ann 'more often' && push ann
+  cam.toml: line 7, chain 1 (see): the offset of arm has to be below its period, 4400; it is 4500
+  refused: BadOffset see arm
+  the chain see has offsets: team cam (cy or root) has to change them in teams/cam.toml, first or in the same commit, or arm to keep its period
+  refused: COMMIT "more often"
+
 What the server fails in is told as that:
 
   $ fresh cy && git -C cy commit -q --allow-empty -m 'once more'; printf 'bob: base\n' >> node.git/desk-teams && push cy

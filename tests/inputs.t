@@ -34,9 +34,17 @@ A file that isn't there
   refused: ReadFailed
   [7]
 
-A folder with a file `.toml` that has no name of a team
-------------------------------------------------------
+A folder with a file `.toml`, in any letters, that isn't called TEAM.toml
+-------------------------------------------------------------------------
 
+  $ mkdir letters && cp $set letters/arm.toml && cp $set letters/cam.TOML && desk admit letters
+  refused: ReadFailed
+  [7]
+  $ rm letters/cam.TOML && cp $set letters/.arm.TOML && desk admit letters | head -n 1
+  admitted 3
+  $ mv letters/arm.toml letters/node.Toml && desk admit letters
+  refused: ReadFailed
+  [7]
   $ mkdir folder && : > folder/-.toml
 
   $ desk admit folder

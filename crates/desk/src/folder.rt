@@ -24,9 +24,9 @@ fn teamless() -> Error {
     Error::new(ErrorKind::NotFound, "no file TEAM.toml in this folder")
 }
 
-// That a file `.toml` has no name of a team.
-fn nameless(rt: &HostRuntime, stem: &str) -> Error {
-    match format!(in rt.alloc(); "no name of a team: {stem}.toml") {
+// That a file isn't called `TEAM.toml`.
+fn nameless(rt: &HostRuntime, file: &str) -> Error {
+    match format!(in rt.alloc(); "no name of a team: {file}") {
         Ok(said) => Error::new(ErrorKind::InvalidInput, said.as_str()),
         Err(error) => Error::from(error),
     }
@@ -48,28 +48,27 @@ struct Listed {
 }
 
 impl Listed {
-    // Takes a file `.toml`. One whose name is no team's is an error, so that no document is left out unseen.
-    fn take(&mut self, rt: &HostRuntime, stem: &str) -> io::Result<()> {
+    // Takes a file. One that isn't called `TEAM.toml` is an error, so that no document is left out unseen.
+    fn take(&mut self, rt: &HostRuntime, file: &str) -> io::Result<()> {
+        let Some(stem) = file.strip_suffix(".toml") else {
+            return Err(nameless(rt, file));
+        };
         if stem == "node" {
             self.has_node = true;
             return Ok(());
         }
         match Name::read(stem.as_bytes()) {
             Ok(team) => self.teams.push(team)?,
-            Err(_) => return Err(nameless(rt, stem)),
+            Err(_) => return Err(nameless(rt, file)),
         }
         Ok(())
     }
 }
 
-// What stands in front of `.toml` in a file's name; none where there is something else, or where the name begins with a
-// dot: such a file is an editor's, say.
-fn stem_of(name: &str) -> Option<&str> {
-    if name.starts_with('.') {
-        None
-    } else {
-        name.strip_suffix(".toml")
-    }
+// A file's name ends with `.toml`, in whatever letters, and doesn't begin with a dot: such a file is an editor's, say.
+fn is_document(rt: &HostRuntime, file: &str) -> io::Result<bool> {
+    let name = file.to_ascii_lowercase(rt.alloc())?;
+    Ok(name.as_str().ends_with(".toml") && !file.starts_with('.'))
 }
 
 // The documents that a folder has, of one team at least.
@@ -80,8 +79,8 @@ fn documents_in(rt: &HostRuntime, folder: &str) -> io::Result<Listed> {
     };
     for entry in fs::read_dir(rt, folder)? {
         let entry = entry?;
-        if let Some(stem) = stem_of(entry.file_name()) {
-            listed.take(rt, stem)?;
+        if is_document(rt, entry.file_name())? {
+            listed.take(rt, entry.file_name())?;
         }
     }
     if listed.teams.is_empty() {
