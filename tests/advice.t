@@ -24,6 +24,9 @@ Inputs
   $ said admit - <&-
   standard input: can't be opened or read: Bad file descriptor
   [7]
+  $ said admit ''
+  "": can't be opened or read: No such file or directory
+  [7]
   $ mkdir teams && ln -s nowhere teams/cam.toml
   $ said admit teams
   teams: can't be opened or read: cam.toml: No such file or directory

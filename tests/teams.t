@@ -325,6 +325,10 @@ What is no such document, in the order of its refusals:
   kept: node.toml: a b is no name of a lock
   refused: node BadLock
   [4]
+  $ told '[locks]\n"" = true\n'
+  kept: node.toml: "" is no name of a lock
+  refused: node BadLock
+  [4]
   $ told '[locks]\na = "b"\nb = "c"\nc = true\n'
   kept: node.toml: a in [locks] has to be true, or in quotes the name of a lock that is true there: a is a second name of that then; it is the string "b"
   refused: node BadLock a

@@ -306,6 +306,7 @@ fn too_long(call: Call<'_>, which: Which) -> &'static str {
 fn push_named(line: &mut String, named: Named<'_>) -> Result<(), AllocError> {
     match named {
         Named::Standard => line.push_str("standard input"),
+        Named::File("") => line.push_str("\"\""),
         Named::File(path) => push_clean(line, path),
     }
 }

@@ -52,10 +52,14 @@ impl Told {
         }
     }
 
-    /// Foreign text between words.
+    /// Foreign text between words, in quotes where there is none.
     pub(crate) fn shown(&mut self, before: &str, foreign: &str, after: &str) {
         self.words(before);
-        self.cut(foreign);
+        if foreign.is_empty() {
+            self.words("\"\"");
+        } else {
+            self.cut(foreign);
+        }
         self.words(after);
     }
 
@@ -63,7 +67,11 @@ impl Told {
     pub(crate) fn quoted(&mut self, words: &str, foreign: &[u8]) {
         self.words(words);
         match std::str::from_utf8(foreign) {
-            Ok(text) => self.shown("\"", text, "\""),
+            Ok(text) => {
+                self.words("\"");
+                self.cut(text);
+                self.words("\"");
+            }
             Err(_) => {
                 self.words("\"");
                 self.ascii(foreign);
