@@ -498,7 +498,7 @@ impl Choice {
     pub(crate) fn help<'a>(self) -> &'a str {
         match self {
             Choice::Prefer => "What decides among the orders that pass: weight, deadline or chains",
-            Choice::Strict => "Refuses a set that may have a mistake, for what is a note else",
+            Choice::Strict => "Refuses a set for what may be a mistake",
             Choice::Task => "The task that is asked about, alone",
             Choice::Chain => "The chain whose bound is laid out as a run, or whose way is drawn",
             Choice::Base => "The least priority, from 1 to 999969",
