@@ -38,18 +38,23 @@ abbrev pub AllWork : List Task → List Job → (first : ℕ) → (others : List
 AllWork U jobs i [] = Works U jobs i
 AllWork U jobs i (c ∷ others) = Works U jobs i × (i ≢ c) × AllWork U jobs c others
 
--- the number bounds each age and each reaction of a chain of tasks, in each run in the order of the levels in which its
--- tasks act, are steady and arrive at their offsets, where these are known, whatever the jobs do within their tasks' sheets
+-- In each run in which the chain's tasks act, are steady and arrive at their offsets, where these are known, the number bounds
+-- each age and each reaction, whatever the jobs do within their tasks' sheets.
+abbrev pub HoldsInRuns : Writes → (offsets : List ℕ) → Node → (first : ℕ) → (others : List ℕ) → (number : ℕ)
+    → Type 0
+HoldsInRuns writes offsets node first others number =
+    (jobs : List Job) (until shift : ℕ) → AreLegalJobs node jobs → AllWork node.tasks jobs first others
+    → AreSteady node jobs until first → OthersSteady node jobs until first others
+    → KeepClock node jobs shift offsets (first ∷ others)
+    → IsAgeBound writes node jobs until first others number
+    × IsReactionBound writes node jobs until first others number
+
+-- so for a chain's tasks in the order of the levels
 abbrev pub IsBounded : Writes → (offsets : List ℕ) → List Task → List LevelData → (tasks : List ℕ) → (number : ℕ)
     → Type 0
 IsBounded writes offsets U levels [] number = Unit {0}
 IsBounded writes offsets U levels (first ∷ others) number =
-    (jobs : List Job) (until shift : ℕ) → AreLegalJobs (node_of U levels) jobs
-    → AllWork U jobs first others
-    → AreSteady (node_of U levels) jobs until first → OthersSteady (node_of U levels) jobs until first others
-    → KeepClock (node_of U levels) jobs shift offsets (first ∷ others)
-    → IsAgeBound writes (node_of U levels) jobs until first others number
-    × IsReactionBound writes (node_of U levels) jobs until first others number
+    HoldsInRuns writes offsets (node_of U levels) first others number
 
 -- what is said of each chain bounds it
 abbrev pub AreBounded : List Task → List LevelData → List ChainData → (said : List CertChain) → Type 0

@@ -1,10 +1,10 @@
 -- What a printed bound of a chain promises of the kernel's runs in its order.
 use Rattle.std.specs.Prelude.{◌≡◌, ℕ, List, ◌∷◌, Some, Ok}
 use Rattle.task_sheet.specs.Sheet.{Task}
-use Rattle.ceiling_kernel.specs.Tick.{Node, Job, node_in}
+use Rattle.ceiling_kernel.specs.Tick.{Node, node_in}
 use Rattle.ceiling_kernel.specs.Releases.{jobs_of}
 use Rattle.ceiling_kernel.specs.Runs.{Runs}
-use Rattle.ceiling_kernel.specs.Waits.{IsNode, AreLegalJobs}
+use Rattle.ceiling_kernel.specs.Waits.{IsNode}
 use Rattle.ceiling_kernel.specs.declared.trace.Release.{Release}
 use Rattle.ceiling_kernel.specs.declared.trace.Trace.{Trace}
 use Rattle.chains.specs.Clocks.{KeepClock}
@@ -16,7 +16,7 @@ use Rattle.chains.specs.declared.bounds.Writes.{Writes}
 use Rattle.chain_runs.specs.Outcomes.{ages_of, reactions_of}
 use Rattle.chain_runs.specs.ChainOutputs.{outputs_of}
 use Rattle.chain_runs.specs.Runs.{AtMost}
-use Rattle.cert_checker.specs.Bounded.{AllWork, IsAgeBound, IsReactionBound}
+pub use Rattle.cert_checker.specs.Bounded.{AllWork, HoldsInRuns}
 
 -- ---- an order and its responses
 -- the levels of an order of a valid set, passing or not: a response that one gives its task is one with which that passes
@@ -25,17 +25,6 @@ pub record AreResponses (U : List Task) (levels : List Level) : Type 0 where
   pub each : (i r : ℕ) → response_in levels i ≡ Some r → RespondsBy (node_in U (order_of levels)) i r
 
 -- ---- the promise
--- In each run in which the chain's tasks act, are steady and arrive at their offsets, where these are known, the number bounds
--- each age and each reaction, whatever the jobs do within their tasks' sheets.
-abbrev pub HoldsInRuns : Writes → (offsets : List ℕ) → Node → (first : ℕ) → (others : List ℕ) → (bound : ℕ)
-    → Type 0
-HoldsInRuns writes offsets node first others bound =
-    (jobs : List Job) (until shift : ℕ) → AreLegalJobs node jobs → AllWork node.tasks jobs first others
-    → AreSteady node jobs until first → OthersSteady node jobs until first others
-    → KeepClock node jobs shift offsets (first ∷ others)
-    → IsAgeBound writes node jobs until first others bound
-    × IsReactionBound writes node jobs until first others bound
-
 -- in a simulated one both that are found are within it
 abbrev pub HoldsWhereSimulated : Writes → (offsets : List ℕ) → Node → (first : ℕ) → (others : List ℕ)
     → (bound : ℕ) → Type 0
