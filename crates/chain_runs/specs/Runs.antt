@@ -20,7 +20,7 @@ use Rattle.chain_runs.specs.Outcomes.{ages_of, reactions_of}
 use Rattle.chain_runs.specs.ChainOutputs.{outputs_of}
 use Rattle.chain_runs.specs.declared.outputs.ChainOutput.{ChainOutput}
 
--- where tasks write at their deadlines, these are those of a valid set: after 0, and within the period
+-- where tasks write at their deadlines, the set is valid: these are after 0, and within the period
 abbrev pub WritesInTime : Writes → Node → Type 0
 WritesInTime AtFinish node = Unit {0}
 WritesInTime AtDeadline node = IsNode node

@@ -19,8 +19,8 @@ handover node i c r =
     if nat_lt (level_in_order node c) (level_in_order node i) then lateness_of (task_at node.tasks i)
     else r - (task_at node.tasks c).cost
 
--- a job of another task that arrives a handover or more after a job starts when that one is finished, whose task has to pass
--- only where it stands below
+-- a job of another task that arrives a handover or more after a job starts only behind that one's finish; that one's task has
+-- to pass only where it stands below
 abbrev pub HandoversHold : Node → List Job → Type 0
 HandoversHold node jobs =
     (j k r s : ℕ) → j < length jobs → (job_at jobs j).task ≢ (job_at jobs k).task

@@ -11,8 +11,8 @@ ghost use Rattle.chains.specs.Walks.{NoLongerSteps};
 ghost use Rattle.chains.specs.Parts.{NoOrderMoves, OffsetsHelp, PartsComeTo, SteadyBound};
 ghost use Rattle.chains.specs.declared.bounds.Writes.{Writes};
 
-/// A job that arrives a handover or more after a job of another task starts when that one is finished, whatever the jobs
-/// do within their tasks' sheets.
+/// A job that arrives a handover or more after a job of another task starts only behind that one's finish, whatever the
+/// jobs do within their tasks' sheets.
 pub fn handovers_hold()
     ensures { (node : Node) (jobs : List Job) → IsNode node → AreLegalJobs node jobs
         → HandoversHold node jobs }

@@ -19,7 +19,7 @@ pub record IsLeastConflict (U : List Task) (S : Indexes) : Type 0 where
   pub obstruction : IsObstruction U S
   pub least : (part : Indexes) → IsObstruction U part → IsPart part S → IsPart S part
 
--- ---- the way to it
+-- ---- the way to it: members that can be spared are left out (Chinneck, Dravnieks 1991)
 -- task i of L is gone through: where what is left without it holds an obstruction, the greatest of these takes the place
 -- of L, and else L stays
 abbrev pub IsGoneThrough : List Task → ℕ → Indexes → Indexes → Type 0

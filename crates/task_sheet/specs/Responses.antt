@@ -1,5 +1,5 @@
 -- Responses and chains of a demand W (Audsley et al. 1993): W t is what must be executed for a task in a window of t,
--- its cost, its blocking, and the jobs released above it. A limit is the last time that serves.
+-- its cost, its blocking, the jobs released above it, timers and interrupts. A limit is the last time that serves.
 use Rattle.std.specs.Prelude.{◌≡◌, ℕ, zero, suc, ◌<◌, ◌≤◌, ◌↔◌, List, [], ◌∷◌, Contains}
 use Rattle.std.specs.List.Sorted.{IsStrictlyIncreasing}
 
