@@ -41,7 +41,7 @@ costs_others tolerance s =
     max (if breaks_priority s then s.lasted else 0)
     (max (if breaks_period tolerance s then s.executed else 0) (max (s.executed - s.may_execute) (late_by s)))
 
--- the first of these, as a cause, with its task's level, and for how long its job was there and others may wait for it
+-- what it breaks first, as a cause, with its task's level, for how long it was there, and others may wait for it
 abbrev pub source_of : ℕ → SeenData → Source
 source_of tolerance s =
     record {
@@ -77,12 +77,12 @@ abbrev pub may_delay : (blocks : Bool) → Source → SeenData → Bool
 may_delay blocks c s =
     (if blocks then s.level == c.level else nat_le s.level c.level) || is_named c s
 
--- a job delays, or blocks, another, or itself, for so long at least
+-- a job delays, or blocks, another, or itself, and others may wait for it so long at least
 abbrev pub delays : (blocks : Bool) → (least : ℕ) → Source → SeenData → Bool
 delays blocks least c s = overlap c s && (may_delay blocks c s && nat_le least c.costs)
 
 -- ---- the causes
--- the first of these
+-- the first job that does
 abbrev pub cause_of : (blocks : Bool) → (least : ℕ) → List Source → SeenData → Option Cause
 cause_of blocks least causes s = option_map (λ c. c.cause) (find (λ c. delays blocks least c s) causes)
 

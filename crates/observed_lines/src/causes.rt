@@ -48,7 +48,8 @@ pub(crate) struct Behind {
     pub bound: Option<Cause>,
 }
 
-// What is asked of a job: whether it delays another, or blocks it, for so long at least, in microseconds.
+// What is asked of a job: whether it delays another, or blocks it, and others may wait for it so long at least, in
+// microseconds.
 #[derive(Clone, Copy)]
 pub(crate) struct Asked {
     pub blocks: bool,
@@ -120,7 +121,7 @@ fn costs_others(tolerance: u64, seen: &Seen) -> u128
     u128::from(stray).max(soon.max(over.max(late)))
 }
 
-// The first of these, as a cause.
+// What it breaks first, as a cause.
 fn source_of(tolerance: u64, seen: &Seen) -> Source
     ensures { result ≡ source_of tolerance seen.now }
 {
@@ -183,7 +184,7 @@ fn may_delay(blocks: bool, source: &Source, seen: &Seen) -> bool
     stands || has_level(seen.culprits(), source.level)
 }
 
-// A job delays, or blocks, another, or itself, for so long at least.
+// A job delays, or blocks, another, or itself, and others may wait for it so long at least.
 pub(crate) fn delays(asked: Asked, source: &Source, seen: &Seen) -> bool
     ensures { result ≡ delays asked.blocks asked.least source.now seen.now }
 {
