@@ -1,6 +1,6 @@
 //! Laws of the core. Each is the clause of a function that does nothing, and its names are defined in `specs/`.
 
-ghost use Rattle.std.specs.Prelude.{◌≡◌, ◌≤◌, ◌+◌, ◌*◌, ℕ, List, [], Some, None, length, map};
+ghost use Rattle.std.specs.Prelude.{◌≡◌, ◌≤◌, ◌+◌, ◌*◌, ℕ, List, [], Some, None, Ok, length, map};
 ghost use Rattle.task_sheet.specs.Sheet.{Task};
 ghost use Rattle.task_sheet.specs.Indexes.{Indexes, IsPart, indexes_of};
 ghost use Rattle.task_sheet.specs.Orders.{all_of};
@@ -10,7 +10,9 @@ ghost use Rattle.desk_core.specs.declared.told.Told.{Told};
 ghost use Rattle.task_sheet.specs.Choices.{chosen_of, level_at};
 ghost use Rattle.desk_core.specs.Findings.{Asked, AreNews, IsTold};
 ghost use Rattle.desk_core.specs.Said.{said_of};
+ghost use Rattle.drafts.specs.Applied.{OnNode, set_of};
 ghost use Rattle.drafts.specs.Books.{IsLegalBook};
+ghost use Rattle.drafts.specs.Edits.{on_base};
 ghost use Rattle.desk_core.specs.Bases.{IsPast};
 ghost use Rattle.desk_core.specs.World.{World, Live, live_at, start, IsRun};
 ghost use Rattle.desk_core.specs.declared.events.Event.{Event};
@@ -30,11 +32,14 @@ pub fn answer_is_one()
         → IsTold U found q first → IsTold U found q second → first ≡ second }
 {}
 
-/// A test of a set of n tasks takes at most n (n + 1) / 2 findings: each is on a candidate of the level that was
-/// present then, and had no finding.
+/// A test of a set of n tasks takes at most n (n + 1) / 2 findings: after any events those that a live draft has, whose
+/// changes apply, were each on a candidate of the level that was present then, and had no finding.
 pub fn findings_are_few()
-    ensures { (U : List Task) (found : List Asked) → AreNews U [] found
+    ensures few { (U : List Task) (found : List Asked) → AreNews U [] found
         → 2 * length found ≤ length U * (length U + 1) }
+    ensures taken { (events : List Event) (replies : List Reply) (v : World) (draft : ℕ) (l : Live) (node : OnNode)
+        → IsRun start events replies v → live_at v.drafts draft ≡ Some l → on_base l.draft ≡ Ok node
+        → AreNews (set_of node) [] l.found }
 {}
 
 /// The levels of a set are what is left of it after the tasks that were chosen, each among those left before it; at a
