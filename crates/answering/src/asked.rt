@@ -33,12 +33,7 @@ pub fn no_such_task(word: &str) -> CommandRefusal
 fn named_chain(chains: &[Chain], name: Name) -> Option<&Chain>
     ensures { option_map (λ c. c.now) result ≡ find (λ c. same_bytes c.name name) chains.now }
 {
-    for chain in chains {
-        if chain.name == name {
-            return Some(chain);
-        }
-    }
-    None
+    chains.iter().find(|chain| chain.name == name)
 }
 
 /// The chain that a word names.
