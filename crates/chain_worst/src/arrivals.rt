@@ -93,12 +93,7 @@ fn against(sheet: &Sheet, rank: usize, until: u64, aims: &[Aim], time: u64) -> u
 fn own_aim(rank: usize, aims: &[Aim]) -> Option<Aim>
     ensures { result ≡ own_aim rank aims.now }
 {
-    for aim in aims {
-        if aim.task == rank {
-            return Some(*aim);
-        }
-    }
-    None
+    aims.iter().copied().find(|aim| aim.task == rank)
 }
 
 /// When the next job of a task arrives that may arrive from a time on.
@@ -117,12 +112,7 @@ pub(crate) fn next_of(sheet: &Sheet, rank: usize, until: u64, aims: &[Aim], time
 fn has_ready(aims: &[Aim], ready: u64) -> bool
     ensures { result ≡ list_any (λ m. m.ready == ready) aims.now }
 {
-    for aim in aims {
-        if aim.ready == ready {
-            return true;
-        }
-    }
-    false
+    aims.iter().any(|aim| aim.ready == ready)
 }
 
 // An aim is, before the end.
