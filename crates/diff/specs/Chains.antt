@@ -1,5 +1,6 @@
 -- The lines of what a change does to a set's chains.
 use Rattle.std.specs.Prelude.{ℕ, ◌-◌, ◌==◌, nat_le, nat_lt, Bool, true, false, ◌&&◌, List, [], ◌∷◌, ◌++◌, codes, slice_get, Option, Some, None, if◌then◌else◌}
+use Rattle.std.specs.List.{find}
 use Rattle.std.specs.Fmt.{decimal}
 use Rattle.task_sheet.specs.Sheet.{Task, same_bytes}
 use Rattle.lines.specs.Known.{some_words}
@@ -51,9 +52,7 @@ same_chain U old V new =
 
 -- the chain of a name, where there is one
 abbrev pub chain_named : List ChainData → List ℕ → Option ChainData
-chain_named [] name = None
-chain_named (chain ∷ chains) name =
-    if same_bytes chain.name name then Some chain else chain_named chains name
+chain_named chains name = find (λ chain. same_bytes chain.name name) chains
 
 -- ---- words
 -- what a limit leaves of a bound, less than nothing where the bound is past it; `-` where one of them is missing

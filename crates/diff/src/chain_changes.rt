@@ -103,12 +103,7 @@ fn same_chain(old: &TaskSet, was: &Chain, new: &TaskSet, is: &Chain) -> bool
 fn chain_named<'a>(chains: &'a [Chain], name: Name) -> Option<&'a Chain>
     ensures { option_map (λ c. c.now) result ≡ chain_named chains.now name }
 {
-    for chain in chains {
-        if chain.name == name {
-            return Some(chain);
-        }
-    }
-    None
+    chains.iter().find(|chain| chain.name == name)
 }
 
 // ---- words
