@@ -195,12 +195,7 @@ fn is_follower(owner: Owner, name: &[u8], place: usize) -> bool
 fn follows(owners: &[Owner], name: &[u8], place: usize) -> bool
     ensures { result ≡ follows owners.now name.now place }
 {
-    for owner in owners {
-        if is_follower(*owner, name, place) {
-            return true;
-        }
-    }
-    false
+    owners.iter().any(|owner| is_follower(*owner, name, place))
 }
 
 /// How many of the sections behind one of a task move along with its end: those that don't say where they begin, up to the
