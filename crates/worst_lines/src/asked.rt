@@ -85,12 +85,7 @@ fn judged_at(set: &TaskSet, judged: &[JudgedTask], task: usize) -> Option<Judged
     ensures is { result ≡ judged_at task judged.now }
     ensures within { IfSome result (λ j. j.task < length set.now) }
 {
-    for entry in judged {
-        if entry.task == task {
-            return Some(*entry);
-        }
-    }
-    None
+    judged.iter().copied().find(|entry| entry.task == task)
 }
 
 /// The task whose worst case is shown: the one that is asked about, or that of least slack, or of a refused set the highest
