@@ -39,12 +39,10 @@ fn has_user(set: &Tabled<'_>, lock: Name, members: Members) -> bool
 fn first_used(set: &Tabled<'_>, locks: &[Name], members: Members) -> Option<Name>
     ensures { result ≡ find (has_user set.now (indexes_of members)) locks.now }
 {
-    for lock in locks {
-        if has_user(set, *lock, members) {
-            return Some(*lock);
-        }
-    }
-    None
+    locks
+        .iter()
+        .copied()
+        .find(|lock| has_user(set, *lock, members))
 }
 
 // Of a section's locks the first as written that some member uses.

@@ -75,12 +75,10 @@ fn uses(set: &TaskSet, task: usize, lock: Name) -> bool
 fn first_user(set: &TaskSet, lock: Name, above: &[Above]) -> Option<Above>
     ensures { result ≡ first_user set.now lock above.now }
 {
-    for user in above {
-        if uses(set, user.task, lock) {
-            return Some(*user);
-        }
-    }
-    None
+    above
+        .iter()
+        .copied()
+        .find(|user| uses(set, user.task, lock))
 }
 
 // That a lock has its ceiling by a task's use, if there is one.
