@@ -32,12 +32,9 @@ fn is_stray(set: &TaskSet, task: usize, offset: u64, job: &JobRecord) -> bool
 fn first_stray(set: &TaskSet, jobs: &[JobRecord], task: usize, offset: u64) -> Option<JobRecord>
     ensures { result ≡ find (is_stray set.now task offset) jobs.now }
 {
-    for job in jobs {
-        if is_stray(set, task, offset, job) {
-            return Some(*job);
-        }
-    }
-    None
+    jobs.iter()
+        .copied()
+        .find(|job| is_stray(set, task, offset, job))
 }
 
 // Its line, where there is one.
