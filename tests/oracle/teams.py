@@ -232,8 +232,8 @@ def text_of(path, files):
     documents, node = {}, b""
     for name, data in inside.items():
         name, *below = name.split("/")
-        if name.endswith(ENDING) and not name.startswith("."):
-            if below or not is_name(name.removesuffix(ENDING)):
+        if name.lower().endswith(ENDING) and not name.startswith("."):
+            if below or not name.endswith(ENDING) or not is_name(name.removesuffix(ENDING)):
                 return None
             if name == NODE + ENDING:
                 node = b"#%% %d\n%s" % (len(data), data)
