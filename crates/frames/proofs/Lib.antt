@@ -1,6 +1,5 @@
 pub mod Eachs
 pub mod Puts
-pub mod Anys
 pub mod Lanes
 pub mod Executed
 pub mod Folds

@@ -14,13 +14,7 @@ fn is_raised(rows: &[TaskRow], k: usize, lock: Name) -> bool
     requires { k < length rows.now }
     ensures { result ≡ is_raised rows.now k lock }
 {
-    let above = &rows[..k + 1];
-    for row in above {
-        if sheet_uses(&row.sheet, lock) {
-            return true;
-        }
-    }
-    false
+    rows[..k + 1].iter().any(|row| sheet_uses(&row.sheet, lock))
 }
 
 // The first such lock of some.
@@ -28,12 +22,7 @@ fn first_raised(rows: &[TaskRow], k: usize, locks: &[Name]) -> Option<Name>
     requires { k < length rows.now }
     ensures { result ≡ find (is_raised rows.now k) locks.now }
 {
-    for lock in locks {
-        if is_raised(rows, k, *lock) {
-            return Some(*lock);
-        }
-    }
-    None
+    locks.iter().copied().find(|lock| is_raised(rows, k, *lock))
 }
 
 // Of the first section that a job is inside after so many ticks, the first such lock.

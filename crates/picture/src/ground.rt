@@ -224,12 +224,7 @@ pub(crate) fn put_window(millis: bool, frame: Frame, text: &mut String) -> Resul
 pub(crate) fn are_interrupted(rows: &[TaskRow]) -> bool
     ensures { result ≡ are_interrupted rows.now }
 {
-    for row in rows {
-        if row.sheet.interrupts_some() {
-            return true;
-        }
-    }
-    false
+    rows.iter().any(|row| row.sheet.interrupts_some())
 }
 
 // That the bounds then count what the run lacks.
