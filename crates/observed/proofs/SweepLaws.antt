@@ -1,11 +1,14 @@
 -- The job that a slice is of, among jobs and slices that stand by time.
 use Rattle.std.proofs.Common.{◌≡◌, ◌∙◌, ℕ, zero, suc, ◌+◌, ◌<◌, ◌≤◌, Bool, true, false, nat_le, nat_lt}
-use Rattle.std.proofs.Common.{List, [], ◌∷◌, ◌++◌, length, get_or, Option, Some, None, unwrap_or, position, cond, drop, not}
-use Rattle.std.proofs.Common.{refl, sym, ap, arith, take, append_assoc}
-use Rattle.std.specs.List.{filter, position_or_len}
+use Rattle.std.proofs.Common.{List, [], ◌∷◌, ◌++◌, length, get_or, Option, Some, None, unwrap_or, position, cond, drop, not, reverse}
+use Rattle.std.proofs.Common.{refl, sym, ap, arith, append_assoc}
+use Rattle.std.specs.List.{filter, find, position_or_len}
+use Rattle.std.specs.Option.{option_or}
 use Rattle.std.proofs.lemmas.Bool.{and_left, and_parts, and_right, leb-true, lt-leb, le-leb, le-ltb, ltb-false, ltb-true, lt-ltb, not-false, true≢false}
 use Rattle.std.specs.Prelude.{if◌then◌else◌}
-use Rattle.std.proofs.lemmas.List.{drop_more, take_more}
+use Rattle.std.proofs.lemmas.Grind.{reverse_onto}
+use Rattle.std.proofs.lemmas.List.{drop_more}
+use Rattle.std.proofs.lemmas.List.Folds.{find-append}
 use Rattle.std.proofs.lemmas.List.Sums.{position_or_len_is}
 use Rattle.task_sheet.specs.Sheet.{same_bytes}
 use Rattle.trace_text.specs.declared.rows.TraceJob.{TraceJob}
@@ -237,17 +240,28 @@ swept_kept jobs time live kept next swept is =
     }
 
 -- ---- the last job of a name
-from_push : (name : List ℕ) (last : Option TraceJob) (xs : List TraceJob) (j : TraceJob)
-    → last_from name last (xs ++ j ∷ [])
-    ≡ (if same_bytes j.name name then Some j else last_from name last xs)
-from_push name last [] j = refl
-from_push name last (x ∷ xs) j =
-    from_push name (if same_bytes x.name name then Some x else last) xs j
+or_before : (o last : Option TraceJob) (j : TraceJob) (b : Bool)
+    → option_or o (if b then Some j else last)
+    ≡ option_or (option_or o (if b then Some j else None)) last
+or_before None last j true = refl
+or_before None last j false = refl
+or_before (Some x) last j b = refl
 
--- of the first jobs and one more
-pub last_more : (name : List ℕ) (js : List TraceJob) (i : ℕ) (d : TraceJob) → i < length js
-    → last_job name (take (i + 1) js)
-    ≡ (if same_bytes (get_or js i d).name name then Some (get_or js i d)
-    else last_job name (take i js))
-last_more name js i d lt =
-    ap (last_job name) (take_more js i d lt) ∙ from_push name None (take i js) (get_or js i d)
+from_reverse : (name : List ℕ) (js : List TraceJob) (last : Option TraceJob)
+    → last_from name last js ≡ option_or (find (λ j. same_bytes j.name name) (reverse js)) last
+from_reverse name [] last = refl
+from_reverse name (j ∷ js) last =
+    let test : TraceJob → Bool = λ j. same_bytes j.name name in
+    from_reverse name js (if test j then Some j else last)
+    ∙ or_before (find test (reverse js)) last j (test j)
+    ∙ ap (λ o. option_or o last) (sym (find-append test (reverse js) (j ∷ [])))
+    ∙ ap (λ xs. option_or (find test xs) last) (sym (reverse_onto js j []))
+
+or_none : (o : Option TraceJob) → option_or o None ≡ o
+or_none None = refl
+or_none (Some x) = refl
+
+-- the first from behind
+pub last_reverse : (name : List ℕ) (js : List TraceJob)
+    → find (λ j. same_bytes j.name name) (reverse js) ≡ last_job name js
+last_reverse name js = sym (from_reverse name js None ∙ or_none _)

@@ -178,15 +178,7 @@ fn odd_of(alloc: Global, odd: Odd) -> Result<Option<Box<Odd>>, AllocError>
 fn last_job(jobs: &[TraceJob], name: Name) -> Option<TraceJob>
     ensures { result ≡ last_job name jobs.now }
 {
-    let mut place = jobs.len();
-    while 0 < place {
-        place -= 1;
-        let job = &jobs[place];
-        if job.name == name {
-            return Some(*job);
-        }
-    }
-    None
+    jobs.iter().rev().find(|job| job.name == name).copied()
 }
 
 // A time from the arrival of a job, if there is one.
