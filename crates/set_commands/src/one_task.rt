@@ -1,7 +1,6 @@
 //! What is said of one task of a set, where the words ask about it.
 ghost use Rattle.std.specs.Prelude.{◌≡◌, ◌++◌, ◌<◌, length, IfOk, option_map, Some, string_bytes};
 ghost use Rattle.assignment.specs.Placings.{IsPlacingOf};
-ghost use Rattle.worst_lines.specs.WorstLines.{AreWorstLines};
 ghost use Rattle.set_commands.specs.Admit.{OfPlaced};
 ghost use Rattle.set_commands.specs.Chained.{IsPlaced};
 ghost use Rattle.set_commands.specs.OneTask.{AreLinesOf, SaysAll, SaysPart, SaysTask, first_said};
@@ -60,23 +59,6 @@ fn limits_text(alloc: Global, placed: &Placed, task: usize) -> Result<Vec<u8>, A
     Ok(lines)
 }
 
-// The worst case of a task.
-fn case_text(
-    alloc: Global,
-    set: &TaskSet,
-    placing: &Placing,
-    task: usize,
-) -> Result<Vec<u8>, AllocError>
-    requires placing { IsPlacingOf set.now placing.now }
-    requires task { task < length set.now }
-    ensures { IfOk result (λ text. AreWorstLines set.now placing.now (Some task) text.items) }
-{
-    let text = worst_text(alloc, set, placing, Some(task))?;
-    let mut lines = Vec::new(alloc);
-    lines.extend_from_slice(text.as_bytes())?;
-    Ok(lines)
-}
-
 // What is said of a task.
 fn part_text(
     alloc: Global,
@@ -94,7 +76,10 @@ fn part_text(
         TaskPart::Reasons { .. } => {
             reasons_text(alloc, &placed.owners, &placed.tasks, &placed.placing, task)
         }
-        TaskPart::Worst => case_text(alloc, &placed.tasks, &placed.placing, task),
+        TaskPart::Worst => {
+            let text = worst_text(alloc, &placed.tasks, &placed.placing, Some(task))?;
+            Ok(text.into_bytes())
+        }
     }
 }
 

@@ -19,11 +19,11 @@ use Rattle.answering.specs.declared.refusal.CommandRefusal.{CommandRefusal}
 use Rattle.answering.specs.declared.refusal.CommandRefusal.TheVariants as refusal
 
 -- the answer on a set and the text of settings: what becomes of each task in the order that they give, and the lines of the
--- worst case there
+-- worst case there, with its settings in front of the list
 abbrev pub WorstsTask : Option (List ℕ) → List Task → List ℕ → Result InOrder CommandRefusal → Type 0
 WorstsTask word U text (Ok found) =
     (asked : Option ℕ) × AsksIn word U text (Ok (found.node, asked))
-    × AreWorstLinesIn U found.node.judged.items asked (string_bytes found.text)
+    × AreWorstLinesIn U (settings_from U 1 (order_judged found.node.judged.items)) found.node.judged.items asked (string_bytes found.text)
 WorstsTask word U text (Err r) = AsksIn word U text (Err r)
 
 -- these are the lines of a chain in an order that was judged: its settings stand in front of the list

@@ -24,7 +24,8 @@ fn task_at(
     ensures { WorstsTask (option_map (λ w. w.now) word.entry) tasks.now text.now result }
 {
     let (node, asked) = judge_asked(alloc, word, tasks, text)?;
-    let text = worst_text_in(alloc, tasks, &node.judged, asked)?;
+    let front = settings_judged(alloc, tasks, &node.judged)?;
+    let text = worst_text_in(alloc, tasks, front.as_str(), &node.judged, asked)?;
     Ok(InOrder { node, text })
 }
 

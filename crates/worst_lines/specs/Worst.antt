@@ -32,18 +32,11 @@ IsLookedAtIn U (Best places) asked order = order ≡ tasks_of_places places.item
 IsLookedAtIn U (Stuck greatest) asked order =
     (C : Indexes) × IsLeftOf U (indexes_of greatest) (length U) C × IsOrderFor U C asked order
 
--- whose worst case is shown: that of the task that is asked about; else that of the one of least slack; of a refused set that
--- of the highest task that doesn't meet its deadline
-abbrev pub chosen : List Task → Placing → Option ℕ → List JudgedTask → Option JudgedTask
-chosen U placing (Some task) judged = judged_at task judged
-chosen U (Best places) None judged = tightest U judged
-chosen U (Stuck left) None judged = highest_failing judged
-
--- the same in an order that is given: that of the task that is asked about; else, where all meet their deadlines, that of the
--- one of least slack, and else that of the highest that doesn't
-abbrev pub chosen_in : List Task → Option ℕ → List JudgedTask → Option JudgedTask
-chosen_in U (Some task) judged = judged_at task judged
-chosen_in U None judged = if all_meet judged then tightest U judged else highest_failing judged
+-- whose worst case is shown: that of the task that is asked about; else, where all meet their deadlines, that of the one of
+-- least slack, and else that of the highest that doesn't
+abbrev pub chosen : List Task → Option ℕ → List JudgedTask → Option JudgedTask
+chosen U (Some task) judged = judged_at task judged
+chosen U None judged = if all_meet judged then tightest U judged else highest_failing judged
 
 -- what is shown of a task's worst case in an order: of one that meets its deadline what its job came to there; of another a
 -- run in which it misses it, or why it is none

@@ -22,7 +22,7 @@ use Rattle.miss.specs.declared.shown.Shown.{Shown}
 use Rattle.miss.specs.declared.shown.Shown.TheVariants as shown
 use Rattle.release_list.specs.Text.{list_lines}
 use Rattle.settings.specs.Settings.{settings_from}
-use Rattle.worst_lines.specs.Worst.{IsLookedAtIn, IsWorstOf, chosen, chosen_in}
+use Rattle.worst_lines.specs.Worst.{IsLookedAtIn, IsWorstOf, chosen}
 use Rattle.worst_lines.specs.declared.worst.Worst.{Worst}
 use Rattle.worst_lines.specs.declared.worst.Worst.TheVariants.{Comes, Fails}
 
@@ -103,15 +103,15 @@ abbrev pub AreLinesOf : List Task → (front order : List ℕ) → Option Judged
 AreLinesOf U front order None text = text ≡ list_lines 0 []
 AreLinesOf U front order (Some j) text = IsSaidOf U front order j text
 
--- the same of the one that is asked about, in the order in which a set is looked at
+-- the same of the task of an order that was judged whose worst case is shown
+abbrev pub AreWorstLinesIn : List Task → (front : List ℕ) → List JudgedTask → (asked : Option ℕ) → List ℕ → Type 0
+AreWorstLinesIn U front judged asked text =
+    AreLinesOf U front (order_judged judged) (chosen U asked judged) text
+
+-- the same in the order in which a set is looked at: its settings stand in front where it isn't the best one
 pub record AreWorstLines (U : List Task) (placing : Placing) (asked : Option ℕ) (text : List ℕ)
     : Type 0 where
   pub judged : List JudgedTask
   pub order : IsLookedAtIn U placing asked (order_judged judged)
   pub each : AllJudged U judged
-  pub lines : AreLinesOf U (front_of U placing (order_judged judged)) (order_judged judged) (chosen U placing asked judged) text
-
--- the same in an order that is given, and was judged: its settings stand in front of the list
-abbrev pub AreWorstLinesIn : List Task → List JudgedTask → Option ℕ → List ℕ → Type 0
-AreWorstLinesIn U judged asked text =
-    AreLinesOf U (settings_from U 1 (order_judged judged)) (order_judged judged) (chosen_in U asked judged) text
+  pub lines : AreWorstLinesIn U (front_of U placing (order_judged judged)) judged asked text

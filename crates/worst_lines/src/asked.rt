@@ -2,9 +2,8 @@
 ghost use Rattle.std.specs.Prelude.{◌≡◌, ◌<◌, length, All, IfSome};
 ghost use Rattle.judge.specs.Judgements.{does_meet};
 ghost use Rattle.worst_lines.specs.Asked.{highest_failing, judged_at, slack_of, tighter, tightest};
-ghost use Rattle.worst_lines.specs.Worst.{chosen, chosen_in};
+ghost use Rattle.worst_lines.specs.Worst.{chosen};
 
-use assignment::Placing;
 use judge::{JudgedTask, Judgement, all_meet};
 use task_sheet::TaskSet;
 
@@ -88,36 +87,15 @@ fn judged_at(set: &TaskSet, judged: &[JudgedTask], task: usize) -> Option<Judged
     judged.iter().copied().find(|entry| entry.task == task)
 }
 
-/// The task whose worst case is shown: the one that is asked about, or that of least slack, or of a refused set the highest
-/// that doesn't meet its deadline; none where there is no such task.
+/// The task whose worst case is shown: the one that is asked about; else, where all meet their deadlines, that of least slack,
+/// and else the highest that doesn't; none where there is no such task.
 pub(crate) fn chosen(
     set: &TaskSet,
-    placing: &Placing,
     asked: Option<usize>,
     judged: &[JudgedTask],
 ) -> Option<JudgedTask>
     requires { All (λ j. j.task < length set.now) judged.now }
-    ensures is { result ≡ chosen set.now placing.now asked judged.now }
-    ensures within { IfSome result (λ j. j.task < length set.now) }
-{
-    match asked {
-        Some(task) => judged_at(set, judged, task),
-        None => match placing {
-            Placing::Best(_) => tightest(set, judged),
-            Placing::Stuck(_) => highest_failing(set, judged),
-        },
-    }
-}
-
-/// The same in an order that is given: the one that is asked about; else, where all meet their deadlines, that of least slack,
-/// and else the highest that doesn't.
-pub(crate) fn chosen_in(
-    set: &TaskSet,
-    asked: Option<usize>,
-    judged: &[JudgedTask],
-) -> Option<JudgedTask>
-    requires { All (λ j. j.task < length set.now) judged.now }
-    ensures is { result ≡ chosen_in set.now asked judged.now }
+    ensures is { result ≡ chosen set.now asked judged.now }
     ensures within { IfSome result (λ j. j.task < length set.now) }
 {
     match asked {

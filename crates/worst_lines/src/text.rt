@@ -1,5 +1,5 @@
 //! The lines of a worst case.
-ghost use Rattle.std.specs.Prelude.{◌≡◌, ◌<◌, ◌++◌, length, codes, IfOk, IfSome, OnOk, string_bytes};
+ghost use Rattle.std.specs.Prelude.{◌≡◌, ◌<◌, ◌++◌, length, codes, IfOk, OnOk, string_bytes};
 ghost use Rattle.std.specs.Fmt.{decimal};
 ghost use Rattle.task_sheet.specs.Sheet.{task_at};
 ghost use Rattle.task_sheet.specs.Indexes.{indexes_of};
@@ -12,9 +12,9 @@ ghost use Rattle.settings.specs.Settings.{settings_from};
 ghost use Rattle.explain.specs.Conflict.{IsLeastConflict};
 ghost use Rattle.judge.specs.Judgements.{order_judged};
 ghost use Rattle.worst_lines.specs.Worst.{IsLookedAtIn, IsOrderFor};
-ghost use Rattle.worst_lines.specs.WorstLines.{AreLinesOf, AreWorstLines, AreWorstLinesIn, EndsAt, IsSaidOf, case_lines, comes_words, comment, front_of, reached_lines, reason_words, response_words, shown_lines, worst_lines};
+ghost use Rattle.worst_lines.specs.WorstLines.{AreWorstLines, AreWorstLinesIn, EndsAt, IsSaidOf, case_lines, comes_words, comment, front_of, reached_lines, reason_words, response_words, shown_lines, worst_lines};
 
-use crate::asked::{chosen, chosen_in};
+use crate::asked::chosen;
 use crate::below::order_below;
 use crate::deciding::deciding_order;
 use crate::worst::{Worst, worst_of};
@@ -22,7 +22,7 @@ use assignment::{Place, Placing, tasks_of_places};
 use ceiling_kernel::Release;
 use ceilings::{LockTable, Tabled};
 use explain::least_conflict;
-use judge::{JudgedTask, judge_order};
+use judge::{JudgedTask, judge_order, order_of};
 use lines::push_name;
 use miss::{NoRun, Reached, Run, Shown, WorstRun, case_of, end_of};
 use release_list::list_text;
@@ -245,42 +245,46 @@ fn lines_text(
     }
 }
 
-// The places of an order, whose responses don't matter.
-fn places_of(alloc: Global, order: &[usize]) -> Result<Vec<Place>, AllocError>
-    ensures { IfOk result (λ places. tasks_of_places places.items ≡ order.now) }
+// The places of an order that was judged, whose responses don't matter.
+fn places_of(alloc: Global, judged: &[JudgedTask]) -> Result<Vec<Place>, AllocError>
+    ensures { IfOk result (λ places. tasks_of_places places.items ≡ order_judged judged.now) }
 {
-    let mut places = Vec::with_capacity(alloc, order.len())?;
-    for task in order {
+    let mut places = Vec::with_capacity(alloc, judged.len())?;
+    for entry in judged {
         places.push(Place {
-            task: *task,
+            task: entry.task,
             response: 0,
         })?;
     }
     Ok(places)
 }
 
-// The settings of an order that decides.
-fn settings_of(alloc: Global, set: &TaskSet, order: &[usize]) -> Result<String, AllocError>
-    requires { IsOrder set.now order.now }
-    ensures { IfOk result (λ text. string_bytes text ≡ settings_from set.now 1 order.now) }
+/// The settings of an order that was judged. The error is out of memory.
+pub fn settings_judged(
+    alloc: Global,
+    set: &TaskSet,
+    judged: &[JudgedTask],
+) -> Result<String, AllocError>
+    requires { IsOrder set.now (order_judged judged.now) }
+    ensures { IfOk result (λ text. string_bytes text ≡ settings_from set.now 1 (order_judged judged.now)) }
 {
-    let places = places_of(alloc, order)?;
+    let places = places_of(alloc, judged)?;
     settings_text(alloc, set, 1, &places)
 }
 
-// The settings of an order, where it isn't the set's best one.
+// The settings of an order that was judged, where it isn't the set's best one.
 fn front_text(
     alloc: Global,
     set: &TaskSet,
     placing: &Placing,
-    order: &[usize],
+    judged: &[JudgedTask],
 ) -> Result<String, AllocError>
-    requires { IsOrder set.now order.now }
-    ensures { IfOk result (λ text. string_bytes text ≡ front_of set.now placing.now order.now) }
+    requires { IsOrder set.now (order_judged judged.now) }
+    ensures { IfOk result (λ text. string_bytes text ≡ front_of set.now placing.now (order_judged judged.now)) }
 {
     match placing {
         Placing::Best(_) => Ok(String::new(alloc)),
-        Placing::Stuck(_) => settings_of(alloc, set, order),
+        Placing::Stuck(_) => settings_judged(alloc, set, judged),
     }
 }
 
@@ -308,7 +312,7 @@ fn order_for(
 }
 
 // The order in which a set is looked at.
-fn order_of(
+fn order_looked_at(
     alloc: Global,
     set: &Tabled<'_>,
     placing: &Placing,
@@ -362,28 +366,29 @@ fn entry_text(
     lines_text(alloc, set, front, listed.as_str(), entry, end, &worst)
 }
 
-// What is printed of the task of an order that was chosen.
-fn chosen_text(
+/// What is printed of a task's worst case in an order that was judged, with this in front of the list: of the task that is asked
+/// about; else, where all meet their deadlines, of the one of least slack, and else of the highest one that doesn't. The error
+/// is out of memory.
+pub fn worst_text_in(
     alloc: Global,
     set: &TaskSet,
     front: &str,
-    order: &[usize],
-    chosen: Option<JudgedTask>,
+    judged: &[JudgedTask],
+    asked: Option<usize>,
 ) -> Result<String, AllocError>
-    requires order { IsOrder set.now order.now }
-    requires chosen { IfSome chosen (λ j. j.task < length set.now) }
-    ensures { IfOk result (λ text. AreLinesOf set.now front.now order.now chosen
-        (string_bytes text)) }
+    requires { IsOrder set.now (order_judged judged.now) }
+    ensures { IfOk result (λ text. AreWorstLinesIn set.now front.now judged.now asked (string_bytes text)) }
 {
-    match chosen {
-        Some(entry) => entry_text(alloc, set, front, order, entry),
+    let order = order_of(alloc, judged)?;
+    match chosen(set, asked, judged) {
+        Some(entry) => entry_text(alloc, set, front, &order, entry),
         None => list_text(alloc, 0, &[]),
     }
 }
 
-/// What is printed of a task's worst case: in a set's best order that of the task that is asked about, or of the one of least
-/// slack; of a refused set that of the task that is asked about, below the others of the minimal conflict where it is of that,
-/// else in an order that decides; or of the highest one that doesn't meet its deadline there. The error is out of memory.
+/// The same in the order in which a set is looked at: its best one; of a refused set, for a task of the minimal conflict that
+/// below the others of it, else one that decides. Its settings stand in front of the list where it isn't the best one. The
+/// error is out of memory.
 pub fn worst_text(
     alloc: Global,
     set: &TaskSet,
@@ -395,50 +400,8 @@ pub fn worst_text(
 {
     let table = LockTable::new(alloc, set)?;
     let tabled = Tabled::of(set, &table);
-    let order = order_of(alloc, &tabled, placing, asked)?;
+    let order = order_looked_at(alloc, &tabled, placing, asked)?;
     let judged = judge_order(alloc, &tabled, &order)?;
-    let chosen = chosen(set, placing, asked, &judged);
-    let front = front_text(alloc, set, placing, &order)?;
-    chosen_text(alloc, set, front.as_str(), &order, chosen)
-}
-
-// The order that was judged.
-fn order_of_judged(alloc: Global, judged: &[JudgedTask]) -> Result<Vec<usize>, AllocError>
-    ensures { IfOk result (λ order. order.items ≡ order_judged judged.now) }
-{
-    let mut order = Vec::with_capacity(alloc, judged.len())?;
-    for entry in judged {
-        order.push(entry.task)?;
-    }
-    Ok(order)
-}
-
-/// The settings of an order that was judged. The error is out of memory.
-pub fn settings_judged(
-    alloc: Global,
-    set: &TaskSet,
-    judged: &[JudgedTask],
-) -> Result<String, AllocError>
-    requires { IsOrder set.now (order_judged judged.now) }
-    ensures { IfOk result (λ text. string_bytes text ≡ settings_from set.now 1 (order_judged judged.now)) }
-{
-    let order = order_of_judged(alloc, judged)?;
-    settings_of(alloc, set, &order)
-}
-
-/// The same in an order that is given, and was judged: of the task that is asked about; else, where all meet their deadlines,
-/// of the one of least slack, and else of the highest one that doesn't. The error is out of memory.
-pub fn worst_text_in(
-    alloc: Global,
-    set: &TaskSet,
-    judged: &[JudgedTask],
-    asked: Option<usize>,
-) -> Result<String, AllocError>
-    requires { IsOrder set.now (order_judged judged.now) }
-    ensures { IfOk result (λ text. AreWorstLinesIn set.now judged.now asked (string_bytes text)) }
-{
-    let order = order_of_judged(alloc, judged)?;
-    let chosen = chosen_in(set, asked, judged);
-    let front = settings_of(alloc, set, &order)?;
-    chosen_text(alloc, set, front.as_str(), &order, chosen)
+    let front = front_text(alloc, set, placing, &judged)?;
+    worst_text_in(alloc, set, front.as_str(), &judged, asked)
 }
