@@ -13,7 +13,8 @@ use Rattle.task_sheet.specs.Sheet.{Task, same_bytes}
 use Rattle.teams.specs.ReadsText.{is_gathered}
 use Rattle.teams.specs.declared.reading.Part.{Part}
 use Rattle.chain_tables.specs.Chains.{ChainData, HasChains, chain_of, clock_fault, clocks_fault, index_of}
-use Rattle.chain_tables.specs.Chains.{steps_in, strange, strange_in, task_named}
+use Rattle.ceiling_kernel.specs.Releases.{task_named}
+use Rattle.chain_tables.specs.Chains.{steps_in, strange, strange_in}
 use Rattle.chains.specs.Walks.{starts_of}
 use Rattle.chain_tables.specs.Documents.{Answers, AreAll, ReadsIf, ReadsParts, ReadsTeams, ReadsThen, Says}
 use Rattle.chain_tables.specs.Tables.{WrittenData, chain_at, table_fault, tables_fault, tables_of, unless}

@@ -1,9 +1,7 @@
 //! The bound of a chain in an order that passes, from the responses of its tasks alone.
 ghost use Rattle.std.specs.Prelude.{◌≡◌, ◌<◌, ◌↔◌, List, length, IfOk, IsTrue};
 ghost use Rattle.std.specs.List.{list_all};
-ghost use Rattle.task_sheet.specs.Indexes.{among, indexes_of};
-ghost use Rattle.task_sheet.specs.Orders.{all_of, IsOrder, IsPassingOrder};
-ghost use Rattle.ceiling_kernel.specs.Bounds.{after_of};
+ghost use Rattle.task_sheet.specs.Orders.{all_of, IsPassingOrder};
 ghost use Rattle.chains.specs.Parts.{bound_in, order_of};
 ghost use Rattle.chains.specs.declared.bounds.Level.{Level};
 ghost use Rattle.chains.specs.declared.bounds.Writes.TheVariants.{AtFinish};

@@ -2,7 +2,8 @@
 use Rattle.std.proofs.Common.{◌≡◌, ◌+◌, ◌<◌, ℕ, List, length, get_or, drop, refl, Option, Some, None, is_some, true, false}
 use Rattle.std.proofs.lemmas.List.{drop_more}
 use Rattle.task_sheet.specs.Sheet.{Task}
-use Rattle.chain_tables.specs.Chains.{strange_in, task_named}
+use Rattle.ceiling_kernel.specs.Releases.{task_named}
+use Rattle.chain_tables.specs.Chains.{strange_in}
 use Rattle.chain_tables.specs.declared.fault.ChainFault.TheVariants.{NoSuchTask}
 
 module _ (U : List Task) (chain : List ℕ) (ns : List (List ℕ)) (i : ℕ) (n : List ℕ)

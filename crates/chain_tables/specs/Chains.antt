@@ -1,8 +1,9 @@
 -- The chains of a set.
-use Rattle.std.specs.Prelude.{◌≡◌, ◌⊎◌, ℕ, nat_le, nat_lt, ◌==◌, ◌&&◌, Bool, List, [], ◌∷◌, ◌++◌, map, length, position, Option, Some, None, is_some, unwrap_or, option_map, Ok, Err, if◌then◌else◌}
+use Rattle.std.specs.Prelude.{◌≡◌, ◌⊎◌, ℕ, nat_le, nat_lt, ◌==◌, ◌&&◌, Bool, List, [], ◌∷◌, ◌++◌, map, length, Option, Some, None, is_some, unwrap_or, option_map, Ok, Err, if◌then◌else◌}
 use Rattle.std.specs.Option.{option_or}
 use Rattle.task_sheet.specs.Sheet.{Task, same_bytes, task_at}
 use Rattle.teams.specs.NodeDocument.{node_word}
+use Rattle.ceiling_kernel.specs.Releases.{task_named}
 use Rattle.chains.specs.Gaps.{gap_of}
 use Rattle.chains.specs.Walks.{starts_of, steps_with}
 use Rattle.chains.specs.declared.bounds.Writes.{Writes}
@@ -25,11 +26,7 @@ pub record ChainData : Type 0 where
   pub offsets : List ℕ
   pub writes : Writes
 
--- the task of a set that has a name
-abbrev pub task_named : List Task → List ℕ → Option ℕ
-task_named U name = position (λ t. same_bytes t.name name) U
-
--- its index; 0 where there is none
+-- the index of the task of a set that has a name; 0 where there is none
 abbrev pub index_of : List Task → List ℕ → ℕ
 index_of U name = unwrap_or (task_named U name) 0
 

@@ -1,9 +1,6 @@
 //! Whether each task of an order meets its deadline by the ceilings that mutexes are given.
-ghost use Rattle.std.specs.Prelude.{◌≡◌, ◌<◌, ◌≤◌, ◌+◌, ℕ, length, slice_index, drop, All, IfOk, IsFalse, None};
-ghost use Rattle.ceilings.specs.IsTableOf.{locks_of};
-ghost use Rattle.task_sheet.specs.Indexes.{among, indexes_of};
-ghost use Rattle.task_sheet.specs.Sheet.{task_at};
-ghost use Rattle.task_sheet.specs.TaskSet.{IsTaskSet};
+ghost use Rattle.std.specs.Prelude.{◌≡◌, ◌<◌, ◌≤◌, ◌+◌, ℕ, length, slice_index, drop, All, IfOk, IsFalse};
+ghost use Rattle.task_sheet.specs.Indexes.{indexes_of};
 ghost use Rattle.task_sheet.specs.Demand.{blocking_of, limit_of};
 ghost use Rattle.task_sheet.specs.Orders.{must_outrank_any};
 ghost use Rattle.task_sheet.specs.declared.sheet.TheConstants.{PERIOD_TO};
