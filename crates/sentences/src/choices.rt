@@ -8,16 +8,20 @@ use task_sheet::{Preference, Sheet, TaskSet};
 // The highest priority of `SCHED_FIFO` on Linux.
 const MOST_FIFO: u64 = 99;
 
-/// Writes a note that a call prefers otherwise than its set. It takes no memory.
+/// Writes a note that a call prefers otherwise than its set, or than the new one. It takes no memory.
 pub fn put_override<W: Write + Drop>(
     call: Preference,
     own: Preference,
+    is_new: bool,
     out: &mut Watched<W>,
 ) -> Result<(), WriteFailed> {
+    let whose = if is_new { "new set's" } else { "set's" };
     let pieces = [
         "note: --prefer ",
         call.word(),
-        " overrides the set's prefer = \"",
+        " overrides the ",
+        whose,
+        " prefer = \"",
         own.word(),
         "\"\n",
     ];
