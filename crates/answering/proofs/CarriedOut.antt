@@ -19,7 +19,6 @@ use Rattle.assignment.specs.declared.placing.Placing.TheVariants.{Best, Stuck}
 use Rattle.answering.specs.Statuses.{placing_status}
 use Rattle.answering.specs.Outcomes.{AreRead, IsCarriedOut, IsCarriedOutOnBoth, IsRead, IsSaidOn}
 use Rattle.answering.specs.Outcomes.{IsPrintedOn, failed_read}
-use Rattle.answering.specs.Printed.{IsPrinted}
 use Rattle.answering.specs.Refusals.{refusal_line, status_of}
 use Rattle.answering.specs.declared.refusal.CommandRefusal.{CommandRefusal}
 use Rattle.answering.specs.declared.refusal.CommandRefusal.TheVariants as refusal
@@ -29,7 +28,7 @@ use Rattle.answering.specs.declared.status.Status.TheVariants.{Done, InputOrOutp
 use Rattle.answering.specs.declared.status.Status.TheVariants.{OutOfMemory}
 
 -- of all refusals that of a failed read alone has the status of a failed input or output
-failed_by : (r : CommandRefusal) → status_of r ≡ InputOrOutputFailed → r ≡ failed_read
+pub failed_by : (r : CommandRefusal) → status_of r ≡ InputOrOutputFailed → r ≡ failed_read
 failed_by (refusal.Input input_fault.ReadFailed) is = refl
 failed_by (refusal.Set set_fault.OutOfMemory) is = cc
 failed_by (refusal.New set_fault.OutOfMemory) is = cc
@@ -113,36 +112,6 @@ said_as told tells = record {
   failed = told.failed;
   unwritten = told.unwritten;
 }
-
--- what is printed of a text that was made is said, or that there was no memory for it
-pub made_said : {T E W : Type 0} {says : Option (List ℕ) → Option (List ℕ) → Status → Type 0}
-    {holds : W → Option (List ℕ)} {old new : WatchedData W} {s : Status} {Q : T → Type 0}
-    (r : Result T E) (bytes : T → List ℕ) (due : Status)
-    → IfOk r Q
-    → IsSaidOn (λ before after t. MatchResult r (λ x. Appends before after (bytes x) × (t ≡ due))
-    (λ _. Appends before after (refusal_line refusal.OutOfMemory) × (t ≡ OutOfMemory))) holds
-    old new s
-    → ((x : T) → Q x → Appends (holds old.inner) (holds new.inner) (bytes x) → s ≡ due
-    → says (holds old.inner) (holds new.inner) s)
-    → (Appends (holds old.inner) (holds new.inner) (refusal_line refusal.OutOfMemory)
-    → s ≡ OutOfMemory → says (holds old.inner) (holds new.inner) s)
-    → IsSaidOn says holds old new s
-made_said (Ok x) bytes due made told tells wants =
-    said_as told (λ wrote. tells x made wrote.0 wrote.1)
-made_said (Err e) bytes due made told tells wants = said_as told (λ want. wants want.0 want.1)
-
--- the same, where the text was made to be these bytes
-pub made_printed : {T E W : Type 0} {holds : W → Option (List ℕ)} {old new : WatchedData W}
-    {s : Status} (r : Result T E) (bytes : T → List ℕ) (due : Status) (text : List ℕ)
-    → IfOk r (λ x. bytes x ≡ text)
-    → IsSaidOn (λ before after t. MatchResult r (λ x. Appends before after (bytes x) × (t ≡ due))
-    (λ _. Appends before after (refusal_line refusal.OutOfMemory) × (t ≡ OutOfMemory))) holds
-    old new s
-    → IsSaidOn (λ before after t. IsPrinted before after text due t) holds old new s
-made_printed {holds = holds} {old = old} {new = new} r bytes due text made told =
-    made_said r bytes due made told (λ x same wrote is.
-    inl (subst (λ (t : List ℕ). Appends (holds old.inner) (holds new.inner) t) same wrote, is))
-    (λ wrote is. inr (wrote, is))
 
 -- what is said was printed, and the writer's flag stays
 pub said_sound : {W : Type 0} {says : Option (List ℕ) → Option (List ℕ) → Status → Type 0}

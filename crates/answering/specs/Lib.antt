@@ -1,5 +1,6 @@
 pub mod Asked
 pub mod Chosen
+pub mod OnBoth
 pub mod OutcomeLines
 pub mod OrderParts
 pub mod Outcomes

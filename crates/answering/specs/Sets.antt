@@ -1,5 +1,5 @@
--- What readers have: a set, or a set and a text; and what is answered on it.
-use Rattle.std.specs.Prelude.{◌⊎◌, ℕ, List, Option, Result, Ok, Err}
+-- What readers have: a set, or a set and a text; or why they don't.
+use Rattle.std.specs.Prelude.{◌⊎◌, ℕ, List, Option, Err}
 use Rattle.task_sheet.specs.Sheet.{Task}
 use Rattle.teams.specs.ReadsText.{ReadsText}
 use Rattle.preferences.specs.ReadsAsked.{IsDoubted, IsUnchained, SaysAsked}
@@ -46,10 +46,6 @@ HasNoSet asking known (refusal.Chain fault) =
 HasNoSet asking known refusal.OutOfMemory = Unit {0}
 HasNoSet asking known _ = ⊥
 
--- one reader has a set, and the other a text of at most so many bytes
-abbrev pub HaveBoth : (most : ℕ) → Asking → (set other : Option (List ℕ)) → List Task → List ℕ → Type 0
-HaveBoth most asking set other U text = HasSet asking set U × IsReadUpTo most other text
-
 -- why there are not both: one of the inputs was not read, or the first fault of the set's bytes, the first doubt of the
 -- set, or the first fault of its chains, once both were read
 abbrev pub HaveNotBoth : (most : ℕ) → Asking → (set other : Option (List ℕ)) → CommandRefusal → Type 0
@@ -67,15 +63,3 @@ HaveNotBoth most asking set other (refusal.Chain fault) =
     × IsUnchained asking bytes fault
 HaveNotBoth most asking set other refusal.OutOfMemory = Unit {0}
 HaveNotBoth most asking set other _ = ⊥
-
--- the answer on what two readers have, where a set and a text have such answers
-abbrev pub OnBoth :
-    {X : Type 0} → (List Task → List ℕ → Result X CommandRefusal → Type 0) → (most : ℕ)
-    → Asking → (set other : Option (List ℕ))
-    → Result X CommandRefusal → Type 0
-OnBoth answers most asking set other (Ok x) =
-    (U : List Task) × (text : List ℕ) × HaveBoth most asking set other U text × answers U text (Ok x)
-OnBoth answers most asking set other (Err r) =
-    HaveNotBoth most asking set other r
-    ⊎ ((U : List Task) × (text : List ℕ) × HaveBoth most asking set other U text
-    × answers U text (Err r))

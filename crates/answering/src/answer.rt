@@ -1,23 +1,44 @@
 //! The lines of a verdict.
-ghost use Rattle.std.specs.Prelude.{◌≡◌, ◌++◌, ◌<◌, length, IfOk, string_bytes};
+ghost use Rattle.std.specs.Prelude.{◌≡◌, ◌≢◌, ◌++◌, ◌<◌, length, IfOk, string_bytes};
 ghost use Rattle.task_sheet.specs.Indexes.{indexes_of, listed_below};
-ghost use Rattle.answering.specs.Outcomes.{IsSaidOn};
-ghost use Rattle.answering.specs.Printed.{IsPrinted};
 ghost use Rattle.assignment.specs.Placings.{IsPlacingOf};
+ghost use Rattle.answering.specs.declared.status.Status.TheVariants.{InputOrOutputFailed};
 ghost use Rattle.answering.specs.OutcomeLines.{infeasible_line};
 ghost use Rattle.answering.specs.OrderParts.{placing_said, settings_said};
 ghost use Rattle.assignment.specs.Placings.{tasks_of_places};
 ghost use Rattle.task_sheet.specs.Orders.{IsOrder};
 
-use crate::output::print_made;
+use crate::notes::Notes;
 use crate::status::Status;
 use assignment::{Place, Placing};
 use lines::push_names;
 use settings::{anew_text, settings_text};
 use std::alloc::{AllocError, Global};
-use std::io::Write;
-use streams::Watched;
 use task_sheet::{Members, TaskSet};
+
+/// What a command prints, the status that it ends with, and what a person is told beside it.
+#[derive(Drop)]
+pub struct Answer {
+    pub text: Vec<u8>,
+    pub status: Status,
+    pub notes: Notes,
+    ghost ended: { status ≢ InputOrOutputFailed },
+}
+
+impl Answer {
+    /// A text with a status, beside which nobody is told anything.
+    pub fn new(text: String, status: Status) -> Answer
+        requires { status ≢ Status.InputOrOutputFailed }
+        ensures text { result.text.items ≡ string_bytes text }
+        ensures status { result.status ≡ status }
+    {
+        Answer {
+            text: text.into_bytes(),
+            status,
+            notes: Notes::none(),
+        }
+    }
+}
 
 /// How much is said of an order.
 #[derive(Clone, Copy)]
@@ -87,22 +108,4 @@ pub fn joined(alloc: Global, first: &[u8], second: &[u8]) -> Result<Vec<u8>, All
     both.extend_from_slice(first)?;
     both.extend_from_slice(second)?;
     Ok(both)
-}
-
-/// Prints the line of an obstruction, or that memory ran out for it.
-pub fn print_stuck<W: Write + Drop>(
-    alloc: Global,
-    set: &TaskSet,
-    members: Members,
-    output: &mut Watched<W>,
-) -> Status
-    ensures { IsSaidOn (λ before after s. IsPrinted before after
-        (infeasible_line set.now (listed_below (length set.now) (indexes_of members)))
-        Status.Infeasible s) W.contents output.old output.new result }
-{
-    print_made(
-        infeasible_text(alloc, set, members),
-        Status::Infeasible,
-        output,
-    )
 }

@@ -47,8 +47,8 @@ pub trait Audience {
     /// The answer that follows compares with a new set, and a chain misses its limit in the best order of that.
     fn missed_in_new(&mut self);
 
-    /// A new set was read beside the first.
-    fn compared(&mut self, new: &TaskSet);
+    /// A new set was read beside the first, by a preference, and who says so.
+    fn compared(&mut self, new: &TaskSet, choice: Choice);
 
     /// No order of a set that passes keeps one that is given: the first pair of it that has to change.
     fn parted(&mut self, set: &TaskSet, low: usize, high: usize);
@@ -86,7 +86,7 @@ impl Audience for Nobody {
 
     fn missed_in_new(&mut self) {}
 
-    fn compared(&mut self, _new: &TaskSet) {}
+    fn compared(&mut self, _new: &TaskSet, _choice: Choice) {}
 
     fn parted(&mut self, _set: &TaskSet, _low: usize, _high: usize) {}
 

@@ -4,16 +4,18 @@
 mod answer;
 mod asked;
 mod audience;
+mod notes;
 mod output;
 mod phrase;
 mod refusal;
 mod sets;
 mod status;
 
-pub use answer::{OrderPart, infeasible_text, joined, placing_text, print_stuck};
-pub use asked::{find_chain, find_task, no_such_chain, no_such_task};
+pub use answer::{Answer, OrderPart, infeasible_text, joined, placing_text};
+pub use asked::{asked_task, find_chain, no_such_chain};
 pub use audience::{Audience, Nobody, Which};
-pub use output::{print, print_bytes, print_made, refuse, refuse_words};
+pub use notes::Notes;
+pub use output::{print, print_answer, refuse, refuse_words};
 pub use refusal::CommandRefusal;
 pub use release_list::TextFault;
 pub use scripts::RushFault;

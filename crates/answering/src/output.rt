@@ -1,16 +1,17 @@
 //! Printing.
-ghost use Rattle.std.specs.Prelude.{◌≡◌, ◌≢◌, ◌⊎◌, codes, true, false, MatchResult, string_bytes};
+ghost use Rattle.std.specs.Prelude.{◌≡◌, ◌⊎◌, codes, true, false};
 ghost use Rattle.std.specs.Io.KnownBytes.{Appends};
-ghost use Rattle.answering.specs.Outcomes.{IsPrintedOn, IsSaidOn};
+ghost use Rattle.answering.specs.Outcomes.{IsPrintedOn};
+ghost use Rattle.answering.specs.Printed.{answer_said, answer_status};
 ghost use Rattle.answering.specs.Refusals.{refusal_line, status_of};
 ghost use Rattle.answering.specs.WordsFaults.{IsMemory, fault_status, goes_out};
 
+use crate::answer::Answer;
 use crate::refusal::CommandRefusal;
 use crate::status::Status;
 use clap::Error;
 use clap::error::ErrorKind;
 use command_line::WordsFault;
-use std::alloc::AllocError;
 use std::io::Write;
 use streams::Watched;
 
@@ -35,41 +36,17 @@ pub fn refuse<W: Write + Drop>(refusal: CommandRefusal, output: &mut Watched<W>)
     }
 }
 
-/// Prints a text that was made, and gives the status that belongs to it; or that there was no memory for it.
-pub fn print_made<W: Write + Drop>(
-    text: Result<String, AllocError>,
-    status: Status,
+/// Prints an answer, or why there is none, and gives its exit status.
+pub fn print_answer<W: Write + Drop>(
+    answer: &Result<Answer, CommandRefusal>,
     output: &mut Watched<W>,
 ) -> Status
-    requires { status ≢ Status.InputOrOutputFailed }
-    ensures { IsSaidOn (λ before after s. MatchResult text
-        (λ made. Appends before after (string_bytes made) × (s ≡ status))
-        (λ _. Appends before after (refusal_line CommandRefusal.OutOfMemory)
-        × (s ≡ Status.OutOfMemory)))
-        W.contents output.old output.new result }
+    ensures { IsPrintedOn W.contents output.old output.new (answer_said answer.now)
+        (answer_status answer.now) result }
 {
-    match text {
-        Ok(text) => print(text.as_bytes(), status, output),
-        Err(_) => refuse(CommandRefusal::OutOfMemory, output),
-    }
-}
-
-/// Prints bytes that were made, and gives the status that belongs to them; or that there was no memory for them.
-pub fn print_bytes<W: Write + Drop>(
-    text: Result<Vec<u8>, AllocError>,
-    status: Status,
-    output: &mut Watched<W>,
-) -> Status
-    requires { status ≢ Status.InputOrOutputFailed }
-    ensures { IsSaidOn (λ before after s. MatchResult text
-        (λ made. Appends before after made.items × (s ≡ status))
-        (λ _. Appends before after (refusal_line CommandRefusal.OutOfMemory)
-        × (s ≡ Status.OutOfMemory)))
-        W.contents output.old output.new result }
-{
-    match text {
-        Ok(text) => print(&text, status, output),
-        Err(_) => refuse(CommandRefusal::OutOfMemory, output),
+    match answer {
+        Ok(answer) => print(&answer.text, answer.status, output),
+        Err(refusal) => refuse(*refusal, output),
     }
 }
 

@@ -3,7 +3,8 @@ ghost use Rattle.std.specs.Prelude.{◌≡◌, ◌≤◌, ◌++◌, List, Err, I
 ghost use Rattle.owners.specs.Owners.{AreOwners};
 ghost use Rattle.preferences.specs.ReadsAsked.{SaysAsked};
 ghost use Rattle.answering.specs.Chosen.{asking_of, base_of, is_sorted, room_of, team_chosen};
-ghost use Rattle.answering.specs.Owning.{HasChained, HasOwned, HaveOwned, IsTakenBy, SaysOwned, clocked_by, clocked_if};
+ghost use Rattle.answering.specs.OnBoth.{HaveBoth};
+ghost use Rattle.answering.specs.Owning.{HasChained, HasOwned, IsTakenBy, SaysOwned, clocked_by, clocked_if};
 ghost use Rattle.chain_tables.specs.Chains.{HasChains};
 ghost use Rattle.answering.specs.Sets.{HasNoSet, HasSet, HaveNotBoth, IsNoSet, asked_refusal};
 ghost use Rattle.answering.specs.Outcomes.{AreRead, IsRead, failed_read};
@@ -269,11 +270,8 @@ pub fn read_two<R: Read + Drop, S: Read + Drop, P: Audience>(
 ) -> Result<Both, CommandRefusal>
     requires { most ≤ TRACE_LIMIT }
     ensures answer { MatchResult result
-        (λ both. HaveOwned most asking (R.remaining set.old.inner)
-        (S.remaining other.old.inner) both.by both.tasks both.owners.items both.text.items)
+        (λ both. HaveBoth most asking (R.remaining set.old.inner) (S.remaining other.old.inner) both)
         (λ r. HaveNotBoth most asking (R.remaining set.old.inner) (S.remaining other.old.inner) r) }
-    ensures chains { IfOk result
-        (λ both. HasChained (R.remaining set.old.inner) both.tasks both.chains.items) }
     ensures read { AreRead failed_read R.remaining set.old set.new other.old other.new
         result }
 {

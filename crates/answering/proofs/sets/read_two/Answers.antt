@@ -28,13 +28,3 @@ returns-clause-answer g c =
     subst (λ (bs : List ℕ). SaysOrRefuses c.args.asking bs c.taken_told.result)
     c.deref.ensures.value c.taken_told.ensures in
     search (rules, both_refused c.args.most c.args.asking set other bytes text first second)
-
-pub returns-clause-chains : goal.returns-clause-chains
-returns-clause-chains g c =
-    let set = g.R.Read.remaining c.args.set.now.inner in
-    let bytes : List ℕ = c.in_ok-bytes.bytes.items in
-    let first : IsReadFrom set bytes = search rules in
-    let reads : SaysOrRefuses c.args.asking bytes c.taken_told.result =
-    subst (λ (bs : List ℕ). SaysOrRefuses c.args.asking bs c.taken_told.result)
-    c.deref.ensures.value c.taken_told.ensures in
-    search rules
