@@ -1,3 +1,2 @@
-pub mod ListedLimits
 pub mod ScriptLaws
 pub mod WorstChains

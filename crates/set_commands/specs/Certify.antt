@@ -10,7 +10,7 @@ use Rattle.certificate.specs.CertificateOf.{certificate_of}
 use Rattle.certificate.specs.Spelling.{spelling}
 use Rattle.cert_checker.specs.Numbers.{level_at, numbers_of}
 use Rattle.answering.specs.Printed.{Prints}
-use Rattle.set_commands.specs.Admit.{OfOneSays}
+use Rattle.set_commands.specs.OnSet.{OfOneSays}
 use Rattle.answering.specs.Owning.{HasChained}
 use Rattle.answering.specs.Sets.{HasNoSet, HasSet}
 use Rattle.answering.specs.declared.refusal.CommandRefusal.{CommandRefusal}

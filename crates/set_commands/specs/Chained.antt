@@ -41,3 +41,11 @@ pub record IsPlaced (placed : Placed) : Type 0 where
   pub levels : placed.levels.items ≡ levels_of placed.placing
   pub leasts : AreLeastOf placed.tasks placed.levels.items placed.chains.items placed.placing placed.leasts.items
   pub met : placed.are_met ≡ all_met placed.tasks placed.levels.items placed.chains.items
+
+-- the lines of the chains of a set that was placed, and its exit status
+abbrev pub chained_of : Telling → Placed → List ℕ
+chained_of telling placed =
+    chained_said telling placed.tasks placed.leasts.items placed.chains.items placed.placing
+
+abbrev pub status_of : Placed → Status
+status_of placed = chained_status placed.tasks placed.chains.items placed.placing

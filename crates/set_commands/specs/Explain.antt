@@ -1,13 +1,12 @@
 -- What `desk explain` answers and prints.
-use Rattle.std.specs.Prelude.{◌≡◌, ℕ, nat_lt, Bool, true, false, not, ◌&&◌, List, [], ◌++◌, length, Option, None, Result, Ok, Err}
-use Rattle.preferences.specs.declared.asking.Asking.{Asking}
+use Rattle.std.specs.Prelude.{◌≡◌, ℕ, nat_lt, Bool, true, false, not, ◌&&◌, List, [], ◌++◌, length, Option, Some, None, Result}
 use Rattle.task_sheet.specs.Indexes.{indexes_of, listed_below}
 use Rattle.task_sheet.specs.Sheet.{Task}
-use Rattle.assignment.specs.Placings.{IsPlacingOf}
 use Rattle.assignment.specs.declared.placing.Placing.{Placing}
 use Rattle.assignment.specs.declared.placing.Placing.TheVariants.{Best, Stuck}
 use Rattle.explain.specs.Explanations.{Explains}
 use Rattle.explain.specs.ExplanationLines.{conflict_line, load_line, needs_lines}
+use Rattle.explain.specs.TaskLines.{task_lines}
 use Rattle.explain.specs.declared.explanation.Explanation.{Explanation}
 use Rattle.explain.specs.declared.explanation.Explanation.TheVariants.{Responses, Conflict}
 use Rattle.judge.specs.Explained.{AreLevels}
@@ -20,14 +19,15 @@ use Rattle.judge.specs.declared.explained.Parted.TheVariants.{Missed, Bare}
 use Rattle.judge.specs.declared.judging.JudgedTask.{JudgedTask}
 use Rattle.task_lines.specs.declared.owner.Owner.{Owner}
 use Rattle.worst_lines.specs.Deciding.{IsDeciding}
-use Rattle.set_commands.specs.Admit.{OfOneSays, Places}
-use Rattle.chain_tables.specs.Chains.{ChainData}
-use Rattle.chain_lines.specs.declared.text.Telling.TheVariants as telling
-use Rattle.set_commands.specs.Chained.{AreLeastOf, chained_said, chained_status}
-use Rattle.least_chains.specs.LeastBound.{levels_of}
+use Rattle.chain_lines.specs.declared.text.Telling.TheVariants.{Parts}
+use Rattle.set_commands.specs.Chained.{chained_of, status_of}
+use Rattle.set_commands.specs.OnSet.{OfSet}
+use Rattle.set_commands.specs.declared.chained.Placed.{Placed}
+use Rattle.answering.specs.Asked.{AnswersAsked}
 use Rattle.answering.specs.OrderParts.{placing_first}
-use Rattle.answering.specs.Printed.{Prints}
-use Rattle.answering.specs.Owning.{HasChained, HasOwned}
+use Rattle.answering.specs.Printed.{AnswersText}
+use Rattle.answering.specs.Statuses.{placing_status}
+use Rattle.answering.specs.declared.answer.Answer.{Answer}
 use Rattle.answering.specs.declared.refusal.CommandRefusal.{CommandRefusal}
 
 -- a conflict of more than three tasks is told in short, unless all is asked for
@@ -48,27 +48,6 @@ AreDecided parted U asked (Best places) rows = rows ≡ []
 AreDecided parted U asked (Stuck left) rows =
     (judged : List JudgedTask) × IsDeciding U (order_judged judged) × AllJudged U judged
     × AreLevels parted U asked 1 judged rows
-
--- a set, whose its tasks are, its chains, its placing, the least bounds of the chains that its order misses, what
--- explains the placing, and the levels of an order that decides
-pub record ExplainedData : Type 0 where
-  pub set : List Task
-  pub owners : List Owner
-  pub chains : List ChainData
-  pub placing : Placing
-  pub leasts : List (Option ℕ)
-  pub explanation : Explanation
-  pub decided : List LevelRow
-
--- the answer on what a reader has: that of `desk admit`, explained
-abbrev pub AnswersExplained : (all : Bool) → Asking → Option (List ℕ)
-    → Result ExplainedData CommandRefusal → Type 0
-AnswersExplained all asking known (Ok e) =
-    HasOwned asking known e.set e.owners × HasChained known e.set e.chains × IsPlacingOf e.set e.placing
-    × AreLeastOf e.set (levels_of e.placing) e.chains e.placing e.leasts
-    × Explains e.set e.placing e.explanation
-    × AreDecided (parted_of (is_short all e.explanation)) e.set None e.placing e.decided
-AnswersExplained all asking known (Err r) = Places asking known (Err r)
 
 -- the line of a conflict
 abbrev pub conflict_said : List Task → Explanation → List ℕ
@@ -99,18 +78,36 @@ abbrev pub reasons_said :
     List Owner → List Task → (all sorted : Bool) → Explanation → (decided : List LevelRow) → List ℕ
 reasons_said owners U all sorted e decided = whole_lines (is_short all e) sorted owners U e decided
 
--- what is printed of an explained placing: its first line, then that, the levels by slack where it is asked for, and each chain
--- with the parts of its bound
-abbrev pub explained_output : (all sorted : Bool) → ExplainedData → List ℕ
-explained_output all sorted e =
-    (placing_first e.set e.placing ++ reasons_said e.owners e.set all sorted e.explanation e.decided)
-    ++ chained_said telling.Parts e.set e.leasts e.chains e.placing
+-- a text is what is printed of a set that was placed: its first line, then that, the levels by slack where it is asked for, and
+-- each chain with the parts of its bound
+abbrev pub IsExplained : (all sorted : Bool) → Placed → List ℕ → Type 0
+IsExplained all sorted placed text =
+    (explanation : Explanation) × (decided : List LevelRow)
+    × Explains placed.tasks placed.placing explanation
+    × AreDecided (parted_of (is_short all explanation)) placed.tasks None placed.placing decided
+    × (text ≡ (placing_first placed.tasks placed.placing
+    ++ reasons_said placed.owners.items placed.tasks all sorted explanation decided) ++ chained_of Parts placed)
 
--- the answer on what the reader had is printed after what the writer held, and the status is the answer's
-abbrev pub SaysExplained : (all sorted : Bool) → OfOneSays
-SaysExplained all sorted asking known before after s =
-    Prints (AnswersExplained all asking known) (explained_output all sorted)
-    (λ e. chained_status e.set e.chains e.placing) before after s
+-- it is what is printed of a task: what explains its response, or that it has none, and what becomes of it in an order that
+-- decides
+abbrev pub IsTaskExplained : Placed → (task : ℕ) → List ℕ → Type 0
+IsTaskExplained placed task text =
+    (explanation : Explanation) × (decided : List LevelRow)
+    × Explains placed.tasks placed.placing explanation
+    × AreDecided Missed placed.tasks (Some task) placed.placing decided
+    × (text ≡ placing_first placed.tasks placed.placing
+    ++ (task_lines placed.owners.items placed.tasks task explanation
+    ++ rows_lines placed.owners.items placed.tasks decided))
+
+-- the answer on all, or on the task that is asked about
+abbrev pub ExplainsAsked : (all sorted : Bool) → Placed → (asked : Option ℕ) → Result Answer CommandRefusal → Type 0
+ExplainsAsked all sorted placed None = AnswersText (IsExplained all sorted placed) (status_of placed)
+ExplainsAsked all sorted placed (Some task) =
+    AnswersText (IsTaskExplained placed task) (placing_status placed.placing)
+
+-- the answer, of the task that a word names
+abbrev pub ExplainsSet : (all sorted : Bool) → Option (List ℕ) → OfSet
+ExplainsSet all sorted word placed = AnswersAsked (ExplainsAsked all sorted placed) placed.tasks word
 
 -- WITH ALL nothing is told in short: the lines are those of the explanation with what each task of a conflict needs, and
 -- those of an order that decides, with the parts of what misses

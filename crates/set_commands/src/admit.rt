@@ -3,15 +3,14 @@ ghost use Rattle.std.specs.Prelude.{◌≡◌, ◌++◌, [], IfOk, string_bytes}
 ghost use Rattle.assignment.specs.Placings.{IsPlacingOf};
 ghost use Rattle.judge.specs.Levels.{placed_rows, rows_lines};
 ghost use Rattle.judge.specs.Slack.{sorted_if};
-ghost use Rattle.set_commands.specs.Admit.{OfPlaced, PlacesOwned, SaysAdmitted, SaysSettings, admitted_said, levels_said};
+ghost use Rattle.set_commands.specs.Admit.{AdmitsSet, SettlesSet, admitted_said, levels_said};
 ghost use Rattle.set_commands.specs.Chained.{IsPlaced};
+ghost use Rattle.set_commands.specs.OnSet.{Places};
 ghost use Rattle.answering.specs.OrderParts.{placing_first, placing_said};
-ghost use Rattle.answering.specs.Outcomes.{IsRead, IsSaidOn, failed_read};
+ghost use Rattle.answering.specs.Outcomes.{IsRead, failed_read};
 
 use crate::chained::{Placed, chained_status, chained_text, leasts_of};
-use answering::{
-    Audience, CommandRefusal, OrderPart, Status, placing_text, print_made, read_owned,
-};
+use answering::{Answer, Audience, CommandRefusal, OrderPart, placing_text, read_owned};
 use assignment::{Place, Placing, place_all};
 use ceilings::{LockTable, Tabled};
 use chain_lines::{Telling, all_met};
@@ -19,7 +18,7 @@ use judge::{placed_rows, push_rows, sorted_if};
 use least_chains::levels_of;
 use preferences::Asking;
 use std::alloc::{AllocError, Global};
-use std::io::{Read, Write};
+use std::io::Read;
 use streams::Watched;
 use task_sheet::TaskSet;
 
@@ -31,7 +30,7 @@ pub fn place<R: Read + Drop, P: Audience>(
     set: &mut Watched<R>,
     people: &mut P,
 ) -> Result<Placed, CommandRefusal>
-    ensures answer { PlacesOwned asking (R.remaining set.old.inner) result }
+    ensures answer { Places asking (R.remaining set.old.inner) result }
     ensures read { IsRead failed_read set.old set.new result }
 {
     let (tasks, owners, chains) = read_owned(alloc, asking, set, people)?;
@@ -106,9 +105,7 @@ fn placed_text(
 // That, and then each chain in the order.
 fn admitted_text(alloc: Global, sorted: bool, placed: &Placed) -> Result<String, AllocError>
     requires { IsPlaced placed.now }
-    ensures { IfOk result (λ text. string_bytes text
-        ≡ admitted_said sorted placed.now.tasks placed.now.leasts.items placed.now.chains.items
-        placed.now.placing) }
+    ensures { IfOk result (λ text. string_bytes text ≡ admitted_said sorted placed.now) }
 {
     let mut text = placed_text(alloc, sorted, &placed.tasks, &placed.placing)?;
     let chains = chained_text(alloc, Telling::Bound, placed)?;
@@ -116,19 +113,13 @@ fn admitted_text(alloc: Global, sorted: bool, placed: &Placed) -> Result<String,
     Ok(text)
 }
 
-/// Prints what `desk admit` says of a set that was placed, its levels by slack where it is asked for; or that there was no
-/// memory for it.
-pub fn say_admitted<W: Write + Drop>(
-    alloc: Global,
-    sorted: bool,
-    placed: &Placed,
-    output: &mut Watched<W>,
-) -> Status
+/// The answer of `desk admit` on a set that was placed, its levels by slack where it is asked for.
+pub fn admit_set(alloc: Global, sorted: bool, placed: &Placed) -> Result<Answer, CommandRefusal>
     requires { IsPlaced placed.now }
-    ensures { IsSaidOn (OfPlaced (SaysAdmitted sorted) placed.now) W.contents output.old output.new result }
+    ensures { AdmitsSet sorted placed.now result }
 {
-    let status = chained_status(placed);
-    print_made(admitted_text(alloc, sorted, placed), status, output)
+    let text = admitted_text(alloc, sorted, placed)?;
+    Ok(Answer::new(text, chained_status(placed)))
 }
 
 // What a node is set to for the order of a set that was placed, or the line of its obstruction.
@@ -141,18 +132,16 @@ fn settings_text(alloc: Global, base: u32, room: u32, placed: &Placed) -> Result
     placing_text(alloc, part, &placed.tasks, &placed.placing)
 }
 
-/// Prints what a node is set to for the order of a set that was placed, where level 1 has this priority, with so much room
-/// beside each; or that there was no memory for it.
-pub fn say_settings<W: Write + Drop>(
+/// The answer of `desk settings` on a set that was placed, where level 1 has this priority, with so much room beside each.
+pub fn settle_set(
     alloc: Global,
     base: u32,
     room: u32,
     placed: &Placed,
-    output: &mut Watched<W>,
-) -> Status
+) -> Result<Answer, CommandRefusal>
     requires { IsPlaced placed.now }
-    ensures { IsSaidOn (OfPlaced (SaysSettings base room) placed.now) W.contents output.old output.new result }
+    ensures { SettlesSet base room placed.now result }
 {
-    let status = chained_status(placed);
-    print_made(settings_text(alloc, base, room, placed), status, output)
+    let text = settings_text(alloc, base, room, placed)?;
+    Ok(Answer::new(text, chained_status(placed)))
 }

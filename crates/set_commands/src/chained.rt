@@ -1,7 +1,7 @@
 //! The chains of a set in its best order.
 ghost use Rattle.std.specs.Prelude.{◌≡◌, IfOk, string_bytes};
 ghost use Rattle.assignment.specs.Placings.{IsPlacingOf};
-ghost use Rattle.set_commands.specs.Chained.{AreLeastOf, IsPlaced, chained_said, chained_status, met_status};
+ghost use Rattle.set_commands.specs.Chained.{AreLeastOf, IsPlaced, chained_of, met_status, status_of};
 
 use answering::Status;
 use assignment::Placing;
@@ -52,9 +52,7 @@ pub(crate) fn chained_text(
     placed: &Placed,
 ) -> Result<String, AllocError>
     requires { IsPlaced placed.now }
-    ensures { IfOk result (λ text. string_bytes text
-        ≡ chained_said telling placed.now.tasks placed.now.leasts.items placed.now.chains.items
-        placed.now.placing) }
+    ensures { IfOk result (λ text. string_bytes text ≡ chained_of telling placed.now) }
 {
     match &placed.placing {
         Placing::Best(_) => chains_text(
@@ -83,7 +81,7 @@ fn met_status(are_met: bool) -> Status
 /// The exit status of a placing and the chains in its order.
 pub(crate) fn chained_status(placed: &Placed) -> Status
     requires { IsPlaced placed.now }
-    ensures { result ≡ chained_status placed.now.tasks placed.now.chains.items placed.now.placing }
+    ensures { result ≡ status_of placed.now }
 {
     match &placed.placing {
         Placing::Best(_) => met_status(placed.are_met),

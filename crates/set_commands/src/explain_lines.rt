@@ -1,5 +1,5 @@
 //! `desk explain`.
-ghost use Rattle.std.specs.Prelude.{◌≡◌, ◌++◌, List, length, Some, None, IfOk, OnOk, true, string_bytes};
+ghost use Rattle.std.specs.Prelude.{◌≡◌, ◌++◌, List, length, Ok, Some, None, IfOk, OnOk, option_map, true, string_bytes};
 ghost use Rattle.task_sheet.specs.Indexes.{indexes_of, listed_below};
 ghost use Rattle.assignment.specs.Placings.{IsPlacingOf};
 ghost use Rattle.explain.specs.Explanations.{Explains};
@@ -9,13 +9,12 @@ ghost use Rattle.judge.specs.Levels.{account_rows, rows_lines};
 ghost use Rattle.judge.specs.Slack.{sorted_if};
 ghost use Rattle.judge.specs.declared.levels.LevelRow.{LevelRow};
 ghost use Rattle.judge.specs.declared.explained.Parted.TheVariants.{Missed};
-ghost use Rattle.set_commands.specs.Explain.{AreDecided, conflict_said, is_short, long_lines, parted_of, reasons_said, whole_lines};
+ghost use Rattle.set_commands.specs.Explain.{AreDecided, ExplainsAsked, ExplainsSet, IsExplained, IsTaskExplained, conflict_said, is_short, long_lines, parted_of, reasons_said, whole_lines};
 ghost use Rattle.answering.specs.OrderParts.{placing_first};
-ghost use Rattle.chain_lines.specs.declared.text.Telling.TheVariants.{Parts};
-ghost use Rattle.set_commands.specs.Chained.{IsPlaced, chained_said};
+ghost use Rattle.set_commands.specs.Chained.{IsPlaced};
 
-use crate::chained::{Placed, chained_text};
-use answering::{OrderPart, placing_text};
+use crate::chained::{Placed, chained_status, chained_text};
+use answering::{Answer, CommandRefusal, OrderPart, asked_task, placing_status, placing_text};
 use assignment::Placing;
 use ceilings::{LockTable, Tabled};
 use chain_lines::Telling;
@@ -216,30 +215,6 @@ fn all_reasons_text(
     Ok(text)
 }
 
-// The same of the task that is asked about, with the parts of what it needs.
-pub(crate) fn reasons_text(
-    alloc: Global,
-    owners: &[Owner],
-    set: &TaskSet,
-    placing: &Placing,
-    task: usize,
-) -> Result<Vec<u8>, AllocError>
-    requires { IsPlacingOf set.now placing.now }
-    ensures { IfOk result (λ text. (explanation : Explanation) × (decided : List LevelRow)
-        × Explains set.now placing.now explanation
-        × AreDecided Missed set.now (Some task) placing.now decided
-        × (text.items ≡ task_lines owners.now set.now task explanation
-        ++ rows_lines owners.now set.now decided)) }
-{
-    let table = LockTable::new(alloc, set)?;
-    let tabled = Tabled::of(set, &table);
-    let explanation = explain(alloc, &tabled, placing)?;
-    let decided = decided_rows(alloc, &tabled, placing, Parted::Missed, Some(task))?;
-    let mut text = task_text(alloc, owners, set, &explanation, task)?;
-    push_rows(&mut text, owners, set, &decided)?;
-    Ok(text.into_bytes())
-}
-
 // The first line of a placing, and then the lines of what explains it, the levels by slack where it is asked for.
 fn whole_reasons_text(
     alloc: Global,
@@ -263,20 +238,14 @@ fn whole_reasons_text(
 }
 
 // The same of a set that was placed, and then each chain with the parts of its bound.
-pub(crate) fn explained_text(
+fn explained_text(
     alloc: Global,
     all: bool,
     sorted: bool,
     placed: &Placed,
 ) -> Result<String, AllocError>
     requires { IsPlaced placed.now }
-    ensures { IfOk result (λ text. (explanation : Explanation) × (decided : List LevelRow)
-        × Explains placed.now.tasks placed.now.placing explanation
-        × AreDecided (parted_of (is_short all explanation)) placed.now.tasks None placed.now.placing decided
-        × (string_bytes text ≡ (placing_first placed.now.tasks placed.now.placing
-        ++ reasons_said placed.now.owners.items placed.now.tasks all sorted explanation decided)
-        ++ chained_said Parts placed.now.tasks placed.now.leasts.items placed.now.chains.items
-        placed.now.placing)) }
+    ensures { IfOk result (λ text. IsExplained all sorted placed.now (string_bytes text)) }
 {
     let mut text = whole_reasons_text(
         alloc,
@@ -289,4 +258,80 @@ pub(crate) fn explained_text(
     let chains = chained_text(alloc, Telling::Parts, placed)?;
     text.push_str(chains.as_str())?;
     Ok(text)
+}
+
+// What explains the response of the task that is asked about, or that it has none, with the parts of what it needs.
+fn reasons_text(
+    alloc: Global,
+    owners: &[Owner],
+    set: &TaskSet,
+    placing: &Placing,
+    task: usize,
+) -> Result<String, AllocError>
+    requires { IsPlacingOf set.now placing.now }
+    ensures { IfOk result (λ text. (explanation : Explanation) × (decided : List LevelRow)
+        × Explains set.now placing.now explanation
+        × AreDecided Missed set.now (Some task) placing.now decided
+        × (string_bytes text ≡ task_lines owners.now set.now task explanation
+        ++ rows_lines owners.now set.now decided)) }
+{
+    let table = LockTable::new(alloc, set)?;
+    let tabled = Tabled::of(set, &table);
+    let explanation = explain(alloc, &tabled, placing)?;
+    let decided = decided_rows(alloc, &tabled, placing, Parted::Missed, Some(task))?;
+    let mut text = task_text(alloc, owners, set, &explanation, task)?;
+    push_rows(&mut text, owners, set, &decided)?;
+    Ok(text)
+}
+
+// The first line of its placing, and then that.
+fn explained_task(alloc: Global, placed: &Placed, task: usize) -> Result<String, AllocError>
+    requires { IsPlaced placed.now }
+    ensures { IfOk result (λ text. IsTaskExplained placed.now task (string_bytes text)) }
+{
+    let (tasks, placing) = (&placed.tasks, &placed.placing);
+    let lines = reasons_text(alloc, &placed.owners, tasks, placing, task)?;
+    let mut text = placing_text(alloc, OrderPart::Count, tasks, placing)?;
+    text.push_str(lines.as_str())?;
+    Ok(text)
+}
+
+// The answer on all, or on the task that is asked about.
+fn explain_asked(
+    alloc: Global,
+    all: bool,
+    sorted: bool,
+    placed: &Placed,
+    asked: Option<usize>,
+) -> Result<Answer, AllocError>
+    requires { IsPlaced placed.now }
+    ensures { IfOk result (λ answer. ExplainsAsked all sorted placed.now asked (Ok answer)) }
+{
+    match asked {
+        Some(task) => {
+            let text = explained_task(alloc, placed, task)?;
+            Ok(Answer::new(text, placing_status(&placed.placing)))
+        }
+        None => {
+            let text = explained_text(alloc, all, sorted, placed)?;
+            Ok(Answer::new(text, chained_status(placed)))
+        }
+    }
+}
+
+/// The answer of `desk explain` on a set that was placed, of the task that a word names; levels stand by slack, and a conflict is
+/// told whole, where it is asked for.
+pub fn explain_set(
+    alloc: Global,
+    all: bool,
+    sorted: bool,
+    word: Option<&str>,
+    placed: &Placed,
+) -> Result<Answer, CommandRefusal>
+    requires { IsPlaced placed.now }
+    ensures { ExplainsSet all sorted (option_map (λ w. w.now) word.entry) placed.now result }
+{
+    let asked = asked_task(&placed.tasks, word)?;
+    let answer = explain_asked(alloc, all, sorted, placed, asked)?;
+    Ok(answer)
 }

@@ -1,4 +1,3 @@
-use Rattle.std.proofs.Common.{◌∙◌, ap}
 use Rattle.set_commands.proofs.explain_lines.reasons_text.Goals as goal
 
 pub returns : goal.returns
@@ -7,6 +6,5 @@ returns c = (
   c.in_ok-decided.decided.items,
   rw c.of-tabled.ensures at c.in_ok-explanation.ensures,
   rw c.of-tabled.ensures at c.in_ok-decided.ensures,
-  ap (λ v. v.items) c.into_bytes.ensures.value
-      ∙ rw (c.deref.ensures.value, c.in_ok-text.ensures) at c.in_ok-push_rows.ensures,
+  rw (c.deref.ensures.value, c.in_ok-text.ensures) at c.in_ok-push_rows.ensures,
 )

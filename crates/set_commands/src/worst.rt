@@ -1,27 +1,22 @@
-//! `desk worst --chain NAME`.
+//! `desk worst`.
 ghost use Rattle.std.specs.Prelude.{◌≡◌, IfOk, option_map, string_bytes};
 ghost use Rattle.assignment.specs.Placings.{IsPlacingOf};
 ghost use Rattle.settings.specs.Settings.{settings_from};
 ghost use Rattle.worst_lines.specs.Deciding.{IsDeciding};
-ghost use Rattle.set_commands.specs.Admit.{OfPlaced};
 ghost use Rattle.set_commands.specs.Chained.{IsPlaced};
 ghost use Rattle.least_chains.specs.LeastBound.{levels_of};
-ghost use Rattle.set_commands.specs.WorstChain.{AreLinesOfChain, SaysChain, SaysWorstOf};
-ghost use Rattle.answering.specs.Outcomes.{IsSaidOn};
+ghost use Rattle.set_commands.specs.Worst.{AreLinesOfChain, WorstsChain, WorstsSet, WorstsTask};
 
 use crate::chained::Placed;
-use crate::one_task::{TaskPart, say_part};
-use answering::{Status, find_chain, no_such_chain, placing_status, print_made, refuse};
+use answering::{Answer, CommandRefusal, asked_task, find_chain, no_such_chain, placing_status};
 use assignment::Placing;
 use ceilings::{LockTable, Tabled};
 use chain_tables::Chain;
 use chain_worst::{chain_worst_text, no_bound_text};
 use chains::Level;
 use std::alloc::{AllocError, Global};
-use std::io::Write;
-use streams::Watched;
 use task_sheet::TaskSet;
-use worst_lines::{judge_deciding, settings_judged};
+use worst_lines::{judge_deciding, settings_judged, worst_text};
 
 // The settings of an order that decides.
 fn deciding_settings(alloc: Global, set: &TaskSet) -> Result<String, AllocError>
@@ -54,41 +49,42 @@ fn chain_text(
     }
 }
 
-// Prints what is said of the chain that a word names, or why there is none.
-fn say_chain<W: Write + Drop>(
-    alloc: Global,
-    word: &str,
-    placed: &Placed,
-    output: &mut Watched<W>,
-) -> Status
+// The answer on the chain that a word names, or that there is none.
+fn worst_chain(alloc: Global, word: &str, placed: &Placed) -> Result<Answer, CommandRefusal>
     requires { IsPlaced placed.now }
-    ensures { IsSaidOn (OfPlaced (SaysChain word.now) placed.now) W.contents output.old output.new result }
+    ensures { WorstsChain word.now placed.now result }
 {
-    match find_chain(&placed.chains, word) {
-        Some(chain) => {
-            let status = placing_status(&placed.placing);
-            let text = chain_text(alloc, &placed.tasks, &placed.placing, &placed.levels, chain);
-            print_made(text, status, output)
-        }
-        None => refuse(no_such_chain(word), output),
-    }
+    let Some(chain) = find_chain(&placed.chains, word) else {
+        return Err(no_such_chain(word));
+    };
+    let text = chain_text(alloc, &placed.tasks, &placed.placing, &placed.levels, chain)?;
+    Ok(Answer::new(text, placing_status(&placed.placing)))
 }
 
-/// Prints what is said of the chain that a word names; without one the worst case of a task, of the one that a word names or
-/// else of the one that the set's verdict is about.
-pub fn say_worst<W: Write + Drop>(
+// The answer on the task that a word names, or on the one that the set's verdict is about.
+fn worst_task(alloc: Global, word: Option<&str>, placed: &Placed) -> Result<Answer, CommandRefusal>
+    requires { IsPlaced placed.now }
+    ensures { WorstsTask (option_map (λ w. w.now) word.entry) placed.now result }
+{
+    let asked = asked_task(&placed.tasks, word)?;
+    let text = worst_text(alloc, &placed.tasks, &placed.placing, asked)?;
+    Ok(Answer::new(text, placing_status(&placed.placing)))
+}
+
+/// The answer of `desk worst` on a set that was placed: of the chain that a word names; without one the worst case of a task,
+/// of the one that a word names or else of the one that the set's verdict is about.
+pub fn worst_set(
     alloc: Global,
     chain: Option<&str>,
     task: Option<&str>,
     placed: &Placed,
-    output: &mut Watched<W>,
-) -> Status
+) -> Result<Answer, CommandRefusal>
     requires { IsPlaced placed.now }
-    ensures { IsSaidOn (OfPlaced (SaysWorstOf (option_map (λ w. w.now) chain.entry)
-        (option_map (λ w. w.now) task.entry)) placed.now) W.contents output.old output.new result }
+    ensures { WorstsSet (option_map (λ w. w.now) chain.entry) (option_map (λ w. w.now) task.entry)
+        placed.now result }
 {
     match chain {
-        Some(word) => say_chain(alloc, word, placed, output),
-        None => say_part(alloc, TaskPart::Worst, task, placed, output),
+        Some(word) => worst_chain(alloc, word, placed),
+        None => worst_task(alloc, task, placed),
     }
 }

@@ -1,5 +1,5 @@
 use Rattle.set_commands.proofs.WorstChains.{levels_are_order}
-use Rattle.set_commands.proofs.worst_chain.chain_text.Goals as goal
+use Rattle.set_commands.proofs.worst.chain_text.Goals as goal
 
 pub chain_worst_text-requires : goal.chain_worst_text-requires
 chain_worst_text-requires c =
