@@ -24,7 +24,8 @@ use Rattle.answering.specs.declared.status.Status.{Status}
 use Rattle.answering.specs.declared.status.Status.TheVariants as status
 use Rattle.two_input_commands.specs.Diff.{IsNew}
 use Rattle.two_input_commands.specs.Draw.{looks_in}
-use Rattle.two_input_commands.specs.OnBoth.{OfTwoSays, SaysOnBoth}
+use Rattle.answering.specs.OnBoth.{OfBoth}
+use Rattle.answering.specs.Printed.{Answers}
 use Rattle.two_input_commands.specs.Simulate.{SimulatesText, simulation_status}
 use Rattle.two_input_commands.specs.View.{AsksRows, IsViewOf, rows_word}
 use Rattle.two_input_commands.specs.declared.beside.TwoRuns.{TwoRuns}
@@ -169,7 +170,8 @@ both_status was is = simulation_status is
 abbrev pub beside_status : TwoRuns → Status
 beside_status b = both_status b.was b.is
 
--- it is printed after what the writer held
-abbrev pub SaysBeside : Options → OfTwoSays
-SaysBeside options asking =
-    SaysOnBoth (AsksBeside (chain_of options) asking options) beside_said beside_status asking
+-- the answer on both
+abbrev pub BesidesBoth : Asking → Options → OfBoth
+BesidesBoth asking options both =
+    Answers (AsksBeside (chain_of options) asking options both.tasks both.text.items)
+    (beside_said both.tasks) beside_status

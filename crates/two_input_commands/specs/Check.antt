@@ -13,7 +13,8 @@ use Rattle.cert_checker.specs.declared.checking.Checked.TheVariants.{Best, NoOrd
 use Rattle.chain_tables.specs.Chains.{ChainData}
 use Rattle.chain_lines.specs.ChainLines.{chain_line}
 use Rattle.two_input_commands.specs.declared.check.Shown.{Shown}
-use Rattle.two_input_commands.specs.OnBoth.{OfTwoSays, SaysOnBothChained}
+use Rattle.answering.specs.OnBoth.{OfBoth}
+use Rattle.answering.specs.Printed.{Answers}
 use Rattle.answering.specs.declared.refusal.CommandRefusal.{CommandRefusal}
 use Rattle.answering.specs.declared.refusal.CommandRefusal.TheVariants as refusal
 use Rattle.answering.specs.declared.status.Status.TheVariants as status
@@ -49,6 +50,8 @@ ChecksText chains U text (Err (refusal.Check fault)) =
 ChecksText chains U text (Err refusal.OutOfMemory) = Unit {0}
 ChecksText chains U text _ = ⊥
 
--- the answer on what the readers had is printed after what the writer held, with the status of what was done
-abbrev pub SaysChecked : OfTwoSays
-SaysChecked = SaysOnBothChained ChecksText (λ owners U shown. string_bytes shown.text) (λ shown. status.Done)
+-- the answer on both, with the status of what was done
+abbrev pub ChecksBoth : OfBoth
+ChecksBoth both =
+    Answers (ChecksText both.chains.items both.tasks both.text.items) (λ shown. string_bytes shown.text)
+    (λ shown. status.Done)

@@ -21,7 +21,8 @@ use Rattle.diff.specs.Whole.{both_weigh, whole_lines}
 use Rattle.answering.specs.Statuses.{placing_status}
 use Rattle.answering.specs.OrderParts.{placing_first}
 use Rattle.least_chains.specs.LeastBound.{levels_of}
-use Rattle.two_input_commands.specs.OnBoth.{OfTwoSays, SaysOnBothWhole}
+use Rattle.answering.specs.OnBoth.{OfBoth}
+use Rattle.answering.specs.Printed.{Answers}
 use Rattle.two_input_commands.specs.declared.chained.ChainsTold.{ChainsTold}
 use Rattle.two_input_commands.specs.declared.diff_lines.Compared.{Compared}
 use Rattle.answering.specs.declared.refusal.CommandRefusal.{CommandRefusal}
@@ -89,8 +90,8 @@ compared_lines owners U c =
     ++ change_lines (both_weigh c.was_by c.is_by) (c.owners.items ++ owners) U c.was c.set c.is
     ++ string_bytes c.chains.text
 
--- the answer on what the readers had is printed after what the writer held, and the status is that of the new set; of the
--- old one no doubt is told
-abbrev pub SaysCompared : OfTwoSays
-SaysCompared asking =
-    SaysOnBothWhole (ComparesText asking) compared_lines (λ c. placing_status c.is) (lenient asking)
+-- the answer on both; the status is that of the new set
+abbrev pub ComparesBoth : Asking → OfBoth
+ComparesBoth asking both =
+    Answers (ComparesText asking both.by both.chains.items both.tasks both.text.items)
+    (compared_lines both.owners.items both.tasks) (λ c. placing_status c.is)

@@ -17,7 +17,6 @@ use Rattle.frames.specs.declared.tones.TheConstants.{TASK_TONES}
 use Rattle.frames.specs.declared.tones.Toned.{Toned}
 use Rattle.two_input_commands.specs.declared.draw.Looks.{Looks as LooksData}
 use Rattle.answering.specs.OutcomeLines.{infeasible_line}
-use Rattle.two_input_commands.specs.OnBoth.{OfTwoSays, SaysOnBoth}
 use Rattle.two_input_commands.specs.Simulate.{SimulatesText, simulation_status}
 use Rattle.two_input_commands.specs.View.{AsksRows, IsViewOf, is_unseen, names_of, rows_word}
 use Rattle.two_input_commands.specs.declared.draw.Drawing.{Drawing}
@@ -90,8 +89,3 @@ DrawsText options U text (Err refusal.EmptyWindow) =
     (answer : Simulated) × (v : View) × SimulatesText U text (Ok answer) × IsViewOf U options v
     × (is_unseen v answer ≡ true)
 DrawsText options U text (Err r) = SimulatesText U text (Err r)
-
--- it is printed as a picture after what the writer held, and the status is that of `desk simulate`
-abbrev pub SaysDrawn : Options → OfTwoSays
-SaysDrawn options =
-    SaysOnBoth (DrawsText options) drawing_said (λ d. simulation_status d.answer)

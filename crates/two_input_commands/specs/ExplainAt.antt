@@ -12,7 +12,8 @@ use Rattle.judge.specs.declared.judging.JudgedTask.{JudgedTask}
 use Rattle.chain_tables.specs.Chains.{ChainData}
 use Rattle.chain_lines.specs.declared.text.Telling.TheVariants as telling
 use Rattle.two_input_commands.specs.Chained.{AreTold, chained_status}
-use Rattle.two_input_commands.specs.OnBoth.{OfTwoSays, SaysOnBothChained}
+use Rattle.answering.specs.OnBoth.{OfBoth}
+use Rattle.answering.specs.Printed.{Answers}
 use Rattle.two_input_commands.specs.declared.chained.ChainsTold.{ChainsTold}
 use Rattle.two_input_commands.specs.declared.explain_at_lines.ExplainedOrder.{ExplainedOrder}
 use Rattle.answering.specs.declared.refusal.CommandRefusal.{CommandRefusal}
@@ -40,9 +41,9 @@ explained_at_lines owners U found told =
     ++ explained_lines owners U found.asked found.levels.items)
     ++ string_bytes told.text
 
--- the answer on what the readers had is printed after what the writer held, and the status is the answer's
-abbrev pub SaysExplainedAt : Option (List ℕ) → (sorted : Bool) → OfTwoSays
-SaysExplainedAt word sorted =
-    SaysOnBothChained (ExplainsText word sorted)
-    (λ owners U found. explained_at_lines owners U found.0 found.1)
+-- the answer on both
+abbrev pub ExplainsBoth : Option (List ℕ) → (sorted : Bool) → OfBoth
+ExplainsBoth word sorted both =
+    Answers (ExplainsText word sorted both.chains.items both.tasks both.text.items)
+    (λ found. explained_at_lines both.owners.items both.tasks found.0 found.1)
     (λ found. chained_status found.0.node.judged.items found.1.are_met)

@@ -1,12 +1,11 @@
 -- What is asked of an order that settings give.
 use Rattle.std.specs.Prelude.{◌≡◌, ℕ, List, Option, Some, None, Result, Ok, Err}
 use Rattle.task_sheet.specs.Sheet.{Task}
-use Rattle.lines.specs.Words.{name_in}
 use Rattle.judge.specs.SettingFaults.{IsSettingsFault, settings_fault}
 use Rattle.judge.specs.Judgements.{AllJudged, order_judged}
 use Rattle.judge.specs.Node.{AreNumbersIn, IsNodeOrder}
 use Rattle.judge.specs.declared.node.JudgedNode.{JudgedNode}
-use Rattle.answering.specs.Asked.{asked_task}
+use Rattle.answering.specs.Asked.{AsksTask}
 use Rattle.answering.specs.declared.refusal.CommandRefusal.{CommandRefusal}
 use Rattle.answering.specs.declared.refusal.CommandRefusal.TheVariants as refusal
 
@@ -22,13 +21,6 @@ abbrev pub JudgesOrder : List Task → List ℕ → Result JudgedNode CommandRef
 JudgesOrder U text (Ok node) = IsOrderJudged U text node
 JudgesOrder U text (Err (refusal.Settings fault)) = IsSettingsFault fault (settings_fault U text)
 JudgesOrder U text _ = ⊥
-
--- the task that is asked about: the one that has the name that a word is, where there is a word; or that there is none
-abbrev pub AsksTask : List Task → Option (List ℕ) → Result (Option ℕ) CommandRefusal → Type 0
-AsksTask U None (Ok asked) = asked ≡ None
-AsksTask U (Some word) (Ok asked) = (task : ℕ) × (asked_task U word ≡ Some task) × (asked ≡ Some task)
-AsksTask U (Some word) (Err (refusal.NoSuchTask name)) = (asked_task U word ≡ None) × (name ≡ name_in word)
-AsksTask U _ _ = ⊥
 
 -- the answer on a set and the text of settings: what becomes of each task in the order that they give, and the task that is
 -- asked about

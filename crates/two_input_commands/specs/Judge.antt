@@ -11,7 +11,8 @@ use Rattle.judge.specs.declared.node.JudgedNode.{JudgedNode}
 use Rattle.chain_tables.specs.Chains.{ChainData}
 use Rattle.chain_lines.specs.declared.text.Telling.TheVariants as telling
 use Rattle.two_input_commands.specs.Chained.{AreTold, chained_status}
-use Rattle.two_input_commands.specs.OnBoth.{OfTwoSays, SaysOnBothChained}
+use Rattle.answering.specs.OnBoth.{OfBoth}
+use Rattle.answering.specs.Printed.{Answers}
 use Rattle.two_input_commands.specs.declared.chained.ChainsTold.{ChainsTold}
 use Rattle.answering.specs.declared.refusal.CommandRefusal.{CommandRefusal}
 use Rattle.answering.specs.declared.refusal.CommandRefusal.TheVariants as refusal
@@ -51,8 +52,9 @@ abbrev pub judged_said : (sorted : Bool) → List Task → JudgedNode → Chains
 judged_said sorted U node told =
     judged_lines sorted U node.judged.items node.numbers.items ++ string_bytes told.text
 
--- the answer on what the readers had is printed after what the writer held, and the status is the answer's
-abbrev pub SaysJudged : (lower sorted : Bool) → OfTwoSays
-SaysJudged lower sorted =
-    SaysOnBothChained (JudgesText lower) (λ owners U found. judged_said sorted U found.0 found.1)
+-- the answer on both
+abbrev pub JudgesBoth : (lower sorted : Bool) → OfBoth
+JudgesBoth lower sorted both =
+    Answers (JudgesText lower both.chains.items both.tasks both.text.items)
+    (λ found. judged_said sorted both.tasks found.0 found.1)
     (λ found. chained_status found.0.judged.items found.1.are_met)

@@ -16,7 +16,8 @@ use Rattle.chain_tables.specs.Chains.{ChainData}
 use Rattle.chain_lines.specs.ChainLines.{all_met}
 use Rattle.answering.specs.OutcomeLines.{infeasible_line}
 use Rattle.least_chains.specs.LeastBound.{levels_at}
-use Rattle.two_input_commands.specs.OnBoth.{OfTwoSays, SaysOnBothChained}
+use Rattle.answering.specs.OnBoth.{OfBoth}
+use Rattle.answering.specs.Printed.{Answers}
 use Rattle.two_input_commands.specs.declared.keep_lines.KeptNode.{KeptNode}
 use Rattle.answering.specs.declared.refusal.CommandRefusal.{CommandRefusal}
 use Rattle.answering.specs.declared.refusal.CommandRefusal.TheVariants as refusal
@@ -84,7 +85,8 @@ HaveOld _ old = Unit {0}
 abbrev pub IsOldOf : KeptNode → Type 0
 IsOldOf node = HaveOld node.keeping node.old.items
 
--- the answer on what the readers had is printed after what the writer held, and the status is the answer's
-abbrev pub SaysKeeping : (base room : ℕ) → OfTwoSays
-SaysKeeping base room =
-    SaysOnBothChained KeepsText (λ owners U node. keeping_lines U base room node) keeping_status
+-- the answer on both
+abbrev pub KeepsBoth : (base room : ℕ) → OfBoth
+KeepsBoth base room both =
+    Answers (KeepsText both.chains.items both.tasks both.text.items) (keeping_lines both.tasks base room)
+    keeping_status

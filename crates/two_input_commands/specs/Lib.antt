@@ -9,7 +9,6 @@ pub mod Judge
 pub mod Keep
 pub mod LimitsAt
 pub mod Observe
-pub mod OnBoth
 pub mod Simulate
 pub mod View
 pub mod Way

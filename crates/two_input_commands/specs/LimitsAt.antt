@@ -10,14 +10,9 @@ use Rattle.chain_tables.specs.Chains.{ChainData}
 use Rattle.limit_lines.specs.Whole.{AreLimits}
 use Rattle.two_input_commands.specs.InOrder.{AsksIn}
 use Rattle.two_input_commands.specs.Judge.{judged_status}
-use Rattle.answering.specs.Owning.{HasChained, HaveOwned}
-use Rattle.answering.specs.Printed.{Prints}
-use Rattle.answering.specs.Sets.{OnBoth}
+use Rattle.answering.specs.OnBoth.{OfBoth}
+use Rattle.answering.specs.Printed.{Answers}
 use Rattle.task_lines.specs.declared.owner.Owner.{Owner}
-use Rattle.task_sheet.specs.declared.prefer.Preference.{Preference}
-use Rattle.preferences.specs.declared.asking.Asking.{Asking}
-use Rattle.two_input_commands.specs.OnBoth.{OfTwoSays}
-use Rattle.streams.specs.declared.input.TheConstants.{INPUT_LIMIT}
 use Rattle.two_input_commands.specs.declared.in_order.InOrder.{InOrder}
 use Rattle.answering.specs.declared.refusal.CommandRefusal.{CommandRefusal}
 
@@ -44,17 +39,8 @@ LimitsText word owners chains U text (Ok found) =
     × IsLimitsText owners chains U found.node asked (string_bytes found.text)
 LimitsText word owners chains U text (Err r) = AsksIn word U text (Err r)
 
--- the same on what two readers have, with the set, whose its tasks are, and its chains
-abbrev pub AnswersLimitsAt : Option (List ℕ) → Asking → (set other : Option (List ℕ))
-    → Result (List Task × List Owner × InOrder) CommandRefusal → Type 0
-AnswersLimitsAt word asking set other (Ok found) =
-    (by : Preference) × (text : List ℕ) × (chains : List ChainData)
-    × HaveOwned INPUT_LIMIT asking set other by found.0 found.1 text × HasChained set found.0 chains
-    × LimitsText word found.1 chains found.0 text (Ok found.2)
-AnswersLimitsAt word asking set other (Err r) = OnBoth (AsksIn word) INPUT_LIMIT asking set other (Err r)
-
--- the answer on what the readers had is printed after what the writer held, and the status is the answer's
-abbrev pub SaysLimitsAt : Option (List ℕ) → OfTwoSays
-SaysLimitsAt word asking set other before after s =
-    Prints (AnswersLimitsAt word asking set other) (λ found. string_bytes found.2.text)
-    (λ found. judged_status found.2.node.judged.items) before after s
+-- the answer on both
+abbrev pub LimitsBoth : Option (List ℕ) → OfBoth
+LimitsBoth word both =
+    Answers (LimitsText word both.owners.items both.chains.items both.tasks both.text.items)
+    (λ found. string_bytes found.text) (λ found. judged_status found.node.judged.items)

@@ -32,8 +32,8 @@ use Rattle.answering.specs.OutcomeLines.{infeasible_line}
 use Rattle.chain_tables.specs.Chains.{ChainData}
 use Rattle.chain_traces.specs.TraceChainLines.{AreSeen}
 use Rattle.chain_traces.specs.declared.text.ChainsSeen.{ChainsSeen}
-use Rattle.two_input_commands.specs.OnBoth.{OfTwoSays, SaysOnBothUpTo}
-use Rattle.streams.specs.declared.input.TheConstants.{TRACE_LIMIT}
+use Rattle.answering.specs.OnBoth.{OfBoth}
+use Rattle.answering.specs.Printed.{Answers}
 use Rattle.two_input_commands.specs.Simulate.{AreJudgedBy, order_fault}
 use Rattle.two_input_commands.specs.declared.observe_lines.Observation.{Observation}
 use Rattle.two_input_commands.specs.declared.observe_lines.Observation.TheVariants.{Seen, Infeasible, Missed}
@@ -181,8 +181,9 @@ observation_status leeway (Seen given shown) told = observed_status leeway shown
 observation_status leeway (Infeasible members) told = status.Infeasible
 observation_status leeway (Missed node) told = judged_status node.judged.items
 
--- the answer on what the readers had is printed after what the writer held, and the status is the answer's
-abbrev pub SaysObserved : Leeway → OfTwoSays
-SaysObserved leeway =
-    SaysOnBothUpTo TRACE_LIMIT (WatchesText leeway) (λ owners U found. observation_said leeway U found.0 found.1)
+-- the answer on both
+abbrev pub ObservesBoth : Leeway → OfBoth
+ObservesBoth leeway both =
+    Answers (WatchesText leeway both.chains.items both.tasks both.text.items)
+    (λ found. observation_said leeway both.tasks found.0 found.1)
     (λ found. observation_status leeway found.0 found.1)

@@ -32,7 +32,8 @@ use Rattle.chains.specs.declared.bounds.Level.{Level}
 use Rattle.chain_tables.specs.Chains.{ChainData}
 use Rattle.chain_runs.specs.RunChainLines.{run_chains_said}
 use Rattle.two_input_commands.specs.Chained.{response_judged}
-use Rattle.two_input_commands.specs.OnBoth.{OfTwoSays, SaysOnBoth, SaysOnBothChained}
+use Rattle.answering.specs.OnBoth.{OfBoth}
+use Rattle.answering.specs.Printed.{Answers}
 use Rattle.answering.specs.declared.refusal.CommandRefusal.{CommandRefusal}
 use Rattle.answering.specs.declared.refusal.CommandRefusal.TheVariants as refusal
 use Rattle.two_input_commands.specs.declared.reached.ReachedChains.{ReachedChains}
@@ -211,14 +212,10 @@ ReachesText chains U text (Ok found) =
 ReachesText chains U text (Err r) = SimulatesText U text (Err r)
 
 -- ---- what is said
--- the answer on what the readers had is printed as the lines of a trace after what the writer held, and the status is the
--- answer's
-abbrev pub SaysSimulated : OfTwoSays
-SaysSimulated = SaysOnBoth SimulatesText simulation_said simulation_status
-
--- or as those of what the tasks and the chains came to, where the words say so
-abbrev pub SaysSimulation : Bool → OfTwoSays
-SaysSimulation false = SaysSimulated
-SaysSimulation true =
-    SaysOnBothChained ReachesText (λ owners U found. reached_said U found.1 found.0)
-    (λ found. simulation_status found.0)
+-- the answer on both: the lines of a trace, or those of what the tasks and the chains came to, where the words say so
+abbrev pub SimulatesBoth : (by_task : Bool) → OfBoth
+SimulatesBoth false both =
+    Answers (SimulatesText both.tasks both.text.items) (simulation_said both.tasks) simulation_status
+SimulatesBoth true both =
+    Answers (ReachesText both.chains.items both.tasks both.text.items)
+    (λ found. reached_said both.tasks found.1 found.0) (λ found. simulation_status found.0)

@@ -19,8 +19,9 @@ use Rattle.answering.specs.Asked.{asked_chain, no_such_chain}
 use Rattle.answering.specs.OutcomeLines.{infeasible_line}
 use Rattle.answering.specs.declared.refusal.CommandRefusal.{CommandRefusal}
 use Rattle.answering.specs.declared.refusal.CommandRefusal.TheVariants as refusal
-use Rattle.two_input_commands.specs.Draw.{DrawsText, SaysDrawn, looks_in}
-use Rattle.two_input_commands.specs.OnBoth.{OfTwoSays, SaysOnBothChained}
+use Rattle.answering.specs.OnBoth.{OfBoth}
+use Rattle.answering.specs.Printed.{Answers}
+use Rattle.two_input_commands.specs.Draw.{DrawsText, drawing_said, looks_in}
 use Rattle.two_input_commands.specs.Simulate.{level_of_bound, simulation_status}
 use Rattle.two_input_commands.specs.declared.draw.Drawing.{Drawing}
 use Rattle.two_input_commands.specs.declared.simulate.Run.{Run}
@@ -85,10 +86,11 @@ picture_with U settings v c run =
     rows_drawn U (rows_of U (looks_in U settings v run.releases.items) run.bounds.items) v run
     (way_in U (map level_of_bound run.bounds.items) c)
 
--- the same of what came of a set; nothing where no order passes
+-- the same of what came of a set; where no order passes the line of the obstruction
 abbrev pub answer_drawn : List Task → List SettingRow → View → ChainData → Simulated → List ℕ
 answer_drawn U settings v c (Ran run) = picture_with U settings v c run
-answer_drawn U settings v c (Infeasible left) = []
+answer_drawn U settings v c (Infeasible left) =
+    infeasible_line U (listed_below (length U) (indexes_of left))
 
 -- ---- the answer
 -- what came of a set and a list is drawn with the way of a chain
@@ -109,19 +111,11 @@ DrawsWay word options chains U text (Err (refusal.NoSuchChain name)) =
     × (refusal.NoSuchChain name ≡ no_such_chain word)
 DrawsWay word options chains U text (Err r) = DrawsText options U text (Err r)
 
--- the refusals of the one or the other
-abbrev pub IsUndrawn : Option (List ℕ) → Options → List ChainData → List Task → List ℕ → CommandRefusal → Type 0
-IsUndrawn None options chains U text r = DrawsText options U text (Err r)
-IsUndrawn (Some word) options chains U text r = DrawsWay word options chains U text (Err r)
-
--- what is printed
-abbrev pub way_said : List Task → DrawnWay → Simulated → List ℕ
-way_said U found (Infeasible left) = infeasible_line U (listed_below (length U) (indexes_of left))
-way_said U found _ = found.text.items
-
--- it is printed after what the writer held, where words name a chain; else what `desk draw` says
-abbrev pub SaysDrawing : Option (List ℕ) → Options → OfTwoSays
-SaysDrawing None options = SaysDrawn options
-SaysDrawing (Some word) options =
-    SaysOnBothChained (DrawsWay word options) (λ owners U found. way_said U found found.answer)
-    (λ found. simulation_status found.answer)
+-- the answer on both, where words name a chain; else that of `desk draw` without it
+abbrev pub DrawsBoth : Option (List ℕ) → Options → OfBoth
+DrawsBoth None options both =
+    Answers (DrawsText options both.tasks both.text.items) (drawing_said both.tasks)
+    (λ d. simulation_status d.answer)
+DrawsBoth (Some word) options both =
+    Answers (DrawsWay word options both.chains.items both.tasks both.text.items)
+    (λ found. found.text.items) (λ found. simulation_status found.answer)

@@ -12,7 +12,8 @@ use Rattle.worst_lines.specs.WorstLines.{AreWorstLinesIn}
 use Rattle.two_input_commands.specs.Chained.{levels_judged}
 use Rattle.two_input_commands.specs.InOrder.{AsksIn, IsOrderJudged}
 use Rattle.two_input_commands.specs.Judge.{judged_status}
-use Rattle.two_input_commands.specs.OnBoth.{OfTwoSays, SaysOnBothChained}
+use Rattle.answering.specs.OnBoth.{OfBoth}
+use Rattle.answering.specs.Printed.{Answers}
 use Rattle.two_input_commands.specs.declared.in_order.InOrder.{InOrder}
 use Rattle.answering.specs.Asked.{asked_chain}
 use Rattle.answering.specs.declared.refusal.CommandRefusal.{CommandRefusal}
@@ -49,8 +50,8 @@ abbrev pub WorstsText : (chain task : Option (List ℕ)) → List ChainData → 
 WorstsText (Some word) task chains U text answer = WorstsChain word chains U text answer
 WorstsText None task chains U text answer = WorstsTask task U text answer
 
--- the answer on what the readers had is printed after what the writer held, and the status is the answer's
-abbrev pub SaysWorstAt : (chain task : Option (List ℕ)) → OfTwoSays
-SaysWorstAt chain task =
-    SaysOnBothChained (WorstsText chain task) (λ _ _ found. string_bytes found.text)
-    (λ found. judged_status found.node.judged.items)
+-- the answer on both
+abbrev pub WorstsBoth : (chain task : Option (List ℕ)) → OfBoth
+WorstsBoth chain task both =
+    Answers (WorstsText chain task both.chains.items both.tasks both.text.items)
+    (λ found. string_bytes found.text) (λ found. judged_status found.node.judged.items)

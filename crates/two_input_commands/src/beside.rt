@@ -3,43 +3,40 @@ ghost use Rattle.std.specs.Prelude.{◌≡◌, ◌++◌, ◌≤◌, length, stri
 ghost use Rattle.task_sheet.specs.Sheet.{Task};
 ghost use Rattle.task_sheet.specs.declared.set.TheConstants.{TASK_LIMIT};
 ghost use Rattle.answering.specs.Chosen.{chain_of};
-ghost use Rattle.answering.specs.Outcomes.{IsSaidOn};
-ghost use Rattle.answering.specs.Printed.{IsPrinted};
 ghost use Rattle.run_lines.specs.TaskBounds.{tasks_of_bounds};
 ghost use Rattle.task_sheet.specs.Orders.{IsOrder};
 ghost use Rattle.picture.specs.Beside.{run_of};
-ghost use Rattle.two_input_commands.specs.Beside.{AreRuns, AsksBeside, BesidesText, IsNoRuns, are_unseen, beside_said, beside_status, drawn_run, list_of, new_of, new_run_refusal, picture_of_both, rows_drawn, toned_as, tone_among};
+ghost use Rattle.two_input_commands.specs.Beside.{AreRuns, AsksBeside, BesidesBoth, BesidesText, IsNoRuns, are_unseen, beside_said, beside_status, drawn_run, list_of, new_of, new_run_refusal, picture_of_both, rows_drawn, toned_as, tone_among};
 ghost use Rattle.two_input_commands.specs.Draw.{task_tones};
 ghost use Rattle.two_input_commands.specs.Simulate.{IsInOrder};
 
 use crate::diff_lines::read_new;
 use crate::draw::{Looks, rows_in, settings_in, task_tones};
-use crate::simulate::{Run, Simulated, simulate_text};
+use crate::simulate::{Run, Simulated, run_notes, simulate_text};
 use crate::view::{Sets, view_of};
-use answering::{CommandRefusal, Status, print_made, print_stuck};
+use answering::{Answer, Both, CommandRefusal, Notes, Status, infeasible_text};
 use command_line::Options;
 use frames::{TaskRow, Toned, View};
 use judge::SettingRow;
 use picture::{DrawnRun, draw_beside};
-use preferences::Asking;
+use preferences::{Asking, Choice};
 use std::alloc::{AllocError, Global};
-use std::io::Write;
-use streams::Watched;
 use task_sheet::{Name, TaskSet};
 
-/// What comes of a release list on a set, and on the one that it becomes, and what is drawn of it.
+// What comes of a release list on a set, and on the one that it becomes, and what is drawn of it.
 #[derive(Drop)]
-pub struct TwoRuns {
-    /// As `desk simulate` answers on the first set.
-    pub was: Simulated,
-    /// The new set.
-    pub set: TaskSet,
-    /// As `desk simulate` answers on that.
-    pub is: Simulated,
-    /// In front of the list.
-    pub settings: Vec<SettingRow>,
-    /// In whose window something lies.
-    pub view: View,
+pub(crate) struct TwoRuns {
+    // As `desk simulate` answers on the first set.
+    was: Simulated,
+    // The new set, and who says by what it is preferred.
+    set: TaskSet,
+    choice: Choice,
+    // As `desk simulate` answers on that.
+    is: Simulated,
+    // In front of the list.
+    settings: Vec<SettingRow>,
+    // In whose window something lies.
+    view: View,
 }
 
 /// The parts of a text in front of its first byte 0 and behind it: a release list and a task set.
@@ -83,7 +80,7 @@ fn run_both(
     asking: Asking,
     tasks: &TaskSet,
     text: &[u8],
-) -> Result<(Simulated, TaskSet, Simulated), CommandRefusal>
+) -> Result<(Simulated, TaskSet, Simulated, Choice), CommandRefusal>
     ensures answer { MatchResult result
         (λ runs. AreRuns asking tasks.now runs.1 text.now runs.0 runs.2)
         (λ r. IsNoRuns asking tasks.now text.now r) }
@@ -92,9 +89,9 @@ fn run_both(
 {
     let (list, new) = parts_of(text);
     let was = simulate_text(alloc, tasks, list)?;
-    let (set, _by, _chains) = read_new(alloc, asking, new)?;
+    let (set, _by, _chains, choice) = read_new(alloc, asking, new)?;
     match simulate_text(alloc, &set, list) {
-        Ok(is) => Ok((was, set, is)),
+        Ok(is) => Ok((was, set, is, choice)),
         Err(refusal) => Err(new_run_refusal(refusal)),
     }
 }
@@ -111,7 +108,7 @@ fn runs_beside(
     ensures was { IfOk result (λ b. IsInOrder tasks.now b.was) }
     ensures is { IfOk result (λ b. IsInOrder b.set b.is) }
 {
-    let (was, set, is) = run_both(alloc, asking, tasks, text)?;
+    let (was, set, is, choice) = run_both(alloc, asking, tasks, text)?;
     let settings = settings_in(alloc, parts_of(text).0)?;
     let sets = Sets::both(tasks, &set);
     let view = view_of(alloc, options, sets)?;
@@ -121,14 +118,15 @@ fn runs_beside(
     Ok(TwoRuns {
         was,
         set,
+        choice,
         is,
         settings,
         view,
     })
 }
 
-/// The same, where no chain is named.
-pub fn beside_text(
+// The same, where no chain is named.
+fn beside_text(
     alloc: Global,
     asking: Asking,
     options: Options<'_>,
@@ -240,25 +238,53 @@ fn picture_of_both(
     draw_beside(alloc, &old, &new, &beside.view)
 }
 
-/// Prints what is drawn of both runs, or why there is none of one.
-pub fn print_beside<W: Write + Drop>(
-    alloc: Global,
-    tasks: &TaskSet,
-    beside: &TwoRuns,
-    output: &mut Watched<W>,
-) -> Status
+// What is drawn of both runs, or why there is none of one.
+fn drawn_text(alloc: Global, tasks: &TaskSet, beside: &TwoRuns) -> Result<String, AllocError>
     requires was { IsInOrder tasks.now beside.now.was }
     requires is { IsInOrder beside.now.set beside.now.is }
-    ensures { IsSaidOn (λ before after s. IsPrinted before after (beside_said tasks.now beside.now)
-        (beside_status beside.now) s) W.contents output.old output.new result }
+    ensures { IfOk result (λ text. string_bytes text ≡ beside_said tasks.now beside.now) }
 {
     match (&beside.was, &beside.is) {
-        (Simulated::Infeasible(members), _) => print_stuck(alloc, tasks, *members, output),
-        (_, Simulated::Infeasible(members)) => print_stuck(alloc, &beside.set, *members, output),
-        (Simulated::Ran(was), Simulated::Ran(is)) => print_made(
-            picture_of_both(alloc, tasks, beside, was, is),
-            Status::Done,
-            output,
-        ),
+        (Simulated::Infeasible(members), _) => infeasible_text(alloc, tasks, *members),
+        (_, Simulated::Infeasible(members)) => infeasible_text(alloc, &beside.set, *members),
+        (Simulated::Ran(was), Simulated::Ran(is)) => picture_of_both(alloc, tasks, beside, was, is),
     }
+}
+
+// The exit status of both runs.
+fn beside_status(beside: &TwoRuns) -> Status
+    ensures { result ≡ beside_status beside.now }
+{
+    match (&beside.was, &beside.is) {
+        (Simulated::Ran(_), Simulated::Ran(_)) => Status::Done,
+        _ => Status::Infeasible,
+    }
+}
+
+// What a person is told of both.
+fn notes_of(beside: TwoRuns) -> Notes {
+    let mut notes = run_notes(&beside.was);
+    if let Simulated::Ran(run) = &beside.is {
+        notes.overruns[1] = run.overrun;
+    }
+    notes.new = Some((beside.set, beside.choice));
+    notes
+}
+
+/// The answer of `desk draw --beside` on a set and the text of a release list and a new set, as the words choose it.
+pub fn draw_beside_both(
+    alloc: Global,
+    asking: Asking,
+    options: Options<'_>,
+    both: &Both,
+) -> Result<Answer, CommandRefusal>
+    ensures { BesidesBoth asking options.entry both.now result }
+{
+    let beside = beside_text(alloc, asking, options, &both.tasks, &both.text)?;
+    let text = drawn_text(alloc, &both.tasks, &beside)?;
+    Ok(Answer {
+        text: text.into_bytes(),
+        status: beside_status(&beside),
+        notes: notes_of(beside),
+    })
 }

@@ -3,7 +3,7 @@ ghost use Rattle.std.specs.Prelude.{◌≡◌, IfOk};
 ghost use Rattle.chain_lines.specs.ChainLines.{all_met};
 ghost use Rattle.two_input_commands.specs.Chained.{AreTold, chained_status, level_judged, levels_judged, response_judged};
 
-use answering::Status;
+use answering::{Both, Notes, Status};
 use chain_lines::{Telling, all_met, chains_text};
 use chain_tables::Chain;
 use chains::Level;
@@ -11,11 +11,11 @@ use judge::{JudgedTask, Judgement, all_meet};
 use std::alloc::{AllocError, Global};
 use task_sheet::TaskSet;
 
-/// What is printed of a set's chains in an order, and whether the bound of each is within its limit.
+// What is printed of a set's chains in an order, and whether the bound of each is within its limit.
 #[derive(Drop)]
-pub struct ChainsTold {
-    pub text: String,
-    pub are_met: bool,
+pub(crate) struct ChainsTold {
+    pub(crate) text: String,
+    pub(crate) are_met: bool,
 }
 
 /// The response of a task that meets its deadline.
@@ -50,8 +50,8 @@ pub(crate) fn levels_judged(alloc: Global, judged: &[JudgedTask]) -> Result<Vec<
     Ok(levels)
 }
 
-/// Whether the bound of each chain is within its limit in an order that was judged. The error is out of memory.
-pub fn met_judged(
+// Whether the bound of each chain is within its limit in an order that was judged. The error is out of memory.
+fn met_judged(
     alloc: Global,
     set: &TaskSet,
     chains: &[Chain],
@@ -80,7 +80,7 @@ pub(crate) fn tell_chains(
 }
 
 /// The exit status of an order and the chains in it.
-pub fn chained_status(judged: &[JudgedTask], are_met: bool) -> Status
+pub(crate) fn chained_status(judged: &[JudgedTask], are_met: bool) -> Status
     ensures { result ≡ chained_status judged.now are_met }
 {
     if all_meet(judged) && are_met {
@@ -88,4 +88,24 @@ pub fn chained_status(judged: &[JudgedTask], are_met: bool) -> Status
     } else {
         Status::Infeasible
     }
+}
+
+// Whether all tasks meet their deadlines in an order that was judged, and a chain misses its limit. The error is out of memory.
+fn misses_judged(alloc: Global, both: &Both, judged: &[JudgedTask]) -> Result<bool, AllocError> {
+    if both.chains.is_empty() || !all_meet(judged) {
+        return Ok(false);
+    }
+    let are_met = met_judged(alloc, &both.tasks, &both.chains, judged)?;
+    Ok(!are_met)
+}
+
+/// What a person is told of an answer that is of an order that was judged. The error is out of memory.
+pub(crate) fn notes_judged(
+    alloc: Global,
+    both: &Both,
+    judged: &[JudgedTask],
+) -> Result<Notes, AllocError> {
+    let mut notes = Notes::none();
+    notes.misses_here = misses_judged(alloc, both, judged)?;
+    Ok(notes)
 }

@@ -1,8 +1,8 @@
 //! `desk check`.
 ghost use Rattle.std.specs.Prelude.{◌≡◌, ◌++◌, IfOk, OnOk, string_bytes};
-ghost use Rattle.two_input_commands.specs.Check.{ChecksText, checked_lines, kind_line, said_lines};
+ghost use Rattle.two_input_commands.specs.Check.{ChecksBoth, ChecksText, checked_lines, kind_line, said_lines};
 
-use answering::CommandRefusal;
+use answering::{Answer, Both, CommandRefusal, Status};
 use cert_checker::{Checked, check};
 use certificate::{CertChain, Certificate, read};
 use chain_lines::push_line;
@@ -10,10 +10,10 @@ use chain_tables::Chain;
 use std::alloc::{AllocError, Global};
 use task_sheet::TaskSet;
 
-/// What is printed of a certificate that shows what it says.
+// What is printed of a certificate that shows what it says.
 #[derive(Drop)]
-pub struct Shown {
-    pub text: String,
+pub(crate) struct Shown {
+    text: String,
 }
 
 // The line that says what a certificate shows.
@@ -56,8 +56,8 @@ fn checked_text(
     Ok(text)
 }
 
-/// What is printed of what a certificate's text shows of a set with these chains.
-pub fn check_text(
+// What is printed of what a certificate's text shows of a set with these chains.
+fn check_text(
     alloc: Global,
     chains: &[Chain],
     tasks: &TaskSet,
@@ -69,4 +69,12 @@ pub fn check_text(
     let checked = check(tasks, chains, &certificate).map_err(CommandRefusal::Check)?;
     let text = checked_text(alloc, chains, &certificate, checked)?;
     Ok(Shown { text })
+}
+
+/// The answer of `desk check` on a set and a certificate.
+pub fn check_both(alloc: Global, both: &Both) -> Result<Answer, CommandRefusal>
+    ensures { ChecksBoth both.now result }
+{
+    let shown = check_text(alloc, &both.chains, &both.tasks, &both.text)?;
+    Ok(Answer::new(shown.text, Status::Done))
 }

@@ -2,10 +2,12 @@
 ghost use Rattle.std.specs.Prelude.{◌≡◌, ◌++◌, IfOk, MatchResult, string_bytes};
 ghost use Rattle.assignment.specs.Placings.{IsPlacingOf};
 ghost use Rattle.chain_tables.specs.Chains.{HasChains};
-ghost use Rattle.two_input_commands.specs.Diff.{AreCompared, ComparesText, IsNew, IsNoNew, both_lines, compared_lines, new_refusal};
+ghost use Rattle.two_input_commands.specs.Diff.{AreCompared, ComparesBoth, ComparesText, IsNew, IsNoNew, both_lines, compared_lines, new_refusal};
 
 use crate::chained::ChainsTold;
-use answering::{CommandRefusal, OrderPart, joined, placing_text};
+use answering::{
+    Answer, Both, CommandRefusal, Notes, OrderPart, joined, placing_status, placing_text,
+};
 use assignment::{Placing, place_all};
 use ceilings::{LockTable, Tabled};
 use chain_lines::all_met;
@@ -13,13 +15,13 @@ use chain_tables::Chain;
 use diff::{ChainSide, Side, chain_text, change_text, whole_text};
 use least_chains::levels_of;
 use owners::{Owner, read_owners};
-use preferences::{AskedFault, Asking, Preference, read_asked};
+use preferences::{AskedFault, Asking, Choice, Preference, read_asked};
 use std::alloc::{AllocError, Global};
 use task_sheet::TaskSet;
 
-/// What becomes of a set, and the set that it becomes.
+// What becomes of a set, and the set that it becomes.
 #[derive(Drop)]
-pub struct Compared {
+pub(crate) struct Compared {
     /// What became of the first set.
     pub was: Placing,
     /// The new set.
@@ -30,8 +32,9 @@ pub struct Compared {
     pub is: Placing,
     /// By what the first set was taken.
     pub was_by: Preference,
-    /// By what the new one is.
+    /// By what the new one is, and who says so.
     pub is_by: Preference,
+    pub choice: Choice,
     /// What is printed of their chains, and whether the bound of each of the new set's is within its limit.
     pub chains: ChainsTold,
 }
@@ -89,13 +92,13 @@ fn chains_compared(
     Ok(ChainsTold { text, are_met })
 }
 
-// The set that a text says, as the call asks for it, by what it is taken, and its chains.
+// The set that a text says, as the call asks for it, by what it is taken, its chains, and who says by what.
 #[tactic(auto, using(crate::proofs::NewRefusals::new_refused_as))]
 pub(crate) fn read_new(
     alloc: Global,
     asking: Asking,
     text: &[u8],
-) -> Result<(TaskSet, Preference, Vec<Chain>), CommandRefusal>
+) -> Result<(TaskSet, Preference, Vec<Chain>, Choice), CommandRefusal>
     ensures { MatchResult result
         (λ new. IsNew asking text.now new.0 new.1 × HasChains text.now new.0 new.2.items)
         (λ r. IsNoNew asking text.now r) }
@@ -103,15 +106,15 @@ pub(crate) fn read_new(
     match read_asked(alloc, text, asking) {
         Ok(new) => {
             let by = new.choice.preference();
-            Ok((new.set, by, new.chains))
+            Ok((new.set, by, new.chains, new.choice))
         }
         Err(fault) => Err(new_refusal(fault)),
     }
 }
 
-/// What becomes of a set with these chains, which was taken by a preference, and of the one that a text says.
+// What becomes of a set with these chains, which was taken by a preference, and of the one that a text says.
 #[tactic(auto, using(crate::proofs::NewRefusals::new_refused))]
-pub fn compare_text(
+fn compare_text(
     alloc: Global,
     asking: Asking,
     by: Preference,
@@ -121,7 +124,7 @@ pub fn compare_text(
 ) -> Result<Compared, CommandRefusal>
     ensures { ComparesText asking by chains.now tasks.now text.now result }
 {
-    let (set, is_by, linked) = read_new(alloc, asking, text)?;
+    let (set, is_by, linked, choice) = read_new(alloc, asking, text)?;
     let owners = read_owners(alloc, text)?;
     let was = place_set(alloc, tasks)?;
     let is = place_set(alloc, &set)?;
@@ -143,6 +146,7 @@ pub fn compare_text(
         is,
         was_by: by,
         is_by,
+        choice,
         chains,
     })
 }
@@ -171,9 +175,9 @@ fn all_owners(alloc: Global, new: &[Owner], old: &[Owner]) -> Result<Vec<Owner>,
     Ok(all)
 }
 
-/// What becomes of the new set, what became of the old one, what of the change no task has, what becomes of the tasks, each
-/// with its team, and then what becomes of the chains.
-pub fn compared_text(
+// What becomes of the new set, what became of the old one, what of the change no task has, what becomes of the tasks, each
+// with its team, and then what becomes of the chains.
+fn compared_text(
     alloc: Global,
     owners: &[Owner],
     tasks: &TaskSet,
@@ -203,4 +207,29 @@ pub fn compared_text(
     let lines = joined(alloc, &front, change.as_bytes())?;
     let text = joined(alloc, &lines, compared.chains.text.as_bytes())?;
     Ok(text)
+}
+
+// What a person is told of it.
+fn notes_of(compared: Compared) -> Notes {
+    let mut notes = Notes::none();
+    notes.misses_in_new = match &compared.is {
+        Placing::Best(_) => !compared.chains.are_met,
+        Placing::Stuck(_) => false,
+    };
+    notes.new = Some((compared.set, compared.choice));
+    notes
+}
+
+/// The answer of `desk diff` on a set and the text of a new one.
+pub fn compare_both(alloc: Global, asking: Asking, both: &Both) -> Result<Answer, CommandRefusal>
+    ensures { ComparesBoth asking both.now result }
+{
+    let (chains, tasks) = (&both.chains, &both.tasks);
+    let compared = compare_text(alloc, asking, both.by, chains, tasks, &both.text)?;
+    let text = compared_text(alloc, &both.owners, tasks, &compared)?;
+    Ok(Answer {
+        text,
+        status: placing_status(&compared.is),
+        notes: notes_of(compared),
+    })
 }

@@ -1,20 +1,21 @@
 //! `desk draw`.
-ghost use Rattle.std.specs.Prelude.{◌≡◌, ◌<◌, ◌≤◌, length, string_bytes, IfOk, All, MatchResult, Ok};
+ghost use Rattle.std.specs.Prelude.{◌≡◌, ◌<◌, ◌≤◌, length, string_bytes, IfOk, All, MatchResult, None, Ok};
+ghost use Rattle.answering.specs.Chosen.{chain_of};
 ghost use Rattle.judge.specs.Front.{settings_in};
 ghost use Rattle.task_sheet.specs.Orders.{IsOrder};
 ghost use Rattle.task_sheet.specs.declared.set.TheConstants.{TASK_LIMIT};
-ghost use Rattle.answering.specs.Printed.{IsPrinted};
 ghost use Rattle.run_lines.specs.TaskBounds.{tasks_of_bounds};
 ghost use Rattle.drawn_runs.specs.DrawnRows.{drawn_row, rows_of, toned_in, unrun_of};
 ghost use Rattle.frames.specs.Tones.{fitted_tone};
 ghost use Rattle.two_input_commands.specs.Draw.{DrawsText, IsUnread, drawing_said, looks_in, looks_of, number_named, picture_of, task_tones};
-ghost use Rattle.answering.specs.Outcomes.{IsSaidOn};
 ghost use Rattle.two_input_commands.specs.View.{tasks_in};
-ghost use Rattle.two_input_commands.specs.Simulate.{IsInOrder, simulation_status};
+ghost use Rattle.two_input_commands.specs.Simulate.{IsInOrder};
+ghost use Rattle.two_input_commands.specs.Way.{DrawsBoth};
 
-use crate::simulate::{Run, Simulated, simulate_text};
+use crate::simulate::{Run, Simulated, notes_run, simulate_text, simulation_status};
 use crate::view::{Sets, all_names, is_unseen, view_of};
-use answering::{CommandRefusal, Status, print_made, print_stuck};
+use crate::way::way_both;
+use answering::{Answer, Both, CommandRefusal, infeasible_text};
 use ceiling_kernel::Release;
 use ceilings::{LockTable, Tabled};
 use command_line::Options;
@@ -25,19 +26,17 @@ use observed::interrupts_within;
 use picture::draw;
 use run_lines::TaskBound;
 use std::alloc::{AllocError, Global};
-use std::io::Write;
-use streams::Watched;
 use task_sheet::{Name, Sheet, TaskSet};
 
-/// What came of a set and a release list, and what is drawn of it.
+// What came of a set and a release list, and what is drawn of it.
 #[derive(Drop)]
-pub struct Drawing {
-    /// As `desk simulate` answers.
-    pub answer: Simulated,
-    /// In front of the list.
-    pub settings: Vec<SettingRow>,
-    /// In whose window something lies.
-    pub view: View,
+pub(crate) struct Drawing {
+    // As `desk simulate` answers.
+    pub(crate) answer: Simulated,
+    // In front of the list.
+    pub(crate) settings: Vec<SettingRow>,
+    // In whose window something lies.
+    pub(crate) view: View,
 }
 
 // The number that settings give to the thread of a name, the first one, if there is one.
@@ -209,8 +208,8 @@ pub(crate) fn settings_in(alloc: Global, text: &[u8]) -> Result<Vec<SettingRow>,
     }
 }
 
-/// What came of a set and the text of a release list, and what is drawn of it.
-pub fn draw_text(
+// What came of a set and the text of a release list, and what is drawn of it.
+pub(crate) fn draw_text(
     alloc: Global,
     options: Options<'_>,
     tasks: &TaskSet,
@@ -239,23 +238,37 @@ pub fn draw_text(
     })
 }
 
-/// Prints what is drawn of a run, or why there is none.
-pub fn print_drawing<W: Write + Drop>(
-    alloc: Global,
-    tasks: &TaskSet,
-    drawing: &Drawing,
-    output: &mut Watched<W>,
-) -> Status
+// What is drawn of a run, or why there is none.
+fn drawing_text(alloc: Global, tasks: &TaskSet, drawing: &Drawing) -> Result<String, AllocError>
     requires { IsInOrder tasks.now drawing.now.answer }
-    ensures { IsSaidOn (λ before after s. IsPrinted before after (drawing_said tasks.now drawing.now)
-        (simulation_status drawing.now.answer) s) W.contents output.old output.new result }
+    ensures { IfOk result (λ text. string_bytes text ≡ drawing_said tasks.now drawing.now) }
 {
     match &drawing.answer {
-        Simulated::Ran(run) => print_made(
-            picture_of(alloc, tasks, &drawing.settings, &drawing.view, run),
-            Status::Done,
-            output,
-        ),
-        Simulated::Infeasible(members) => print_stuck(alloc, tasks, *members, output),
+        Simulated::Ran(run) => picture_of(alloc, tasks, &drawing.settings, &drawing.view, run),
+        Simulated::Infeasible(members) => infeasible_text(alloc, tasks, *members),
+    }
+}
+
+// The answer of `desk draw` on a set and a release list, where no chain is named.
+fn run_both(alloc: Global, options: Options<'_>, both: &Both) -> Result<Answer, CommandRefusal>
+    ensures { DrawsBoth None options.entry both.now result }
+{
+    let drawing = draw_text(alloc, options, &both.tasks, &both.text)?;
+    let text = drawing_text(alloc, &both.tasks, &drawing)?;
+    let notes = notes_run(alloc, both, &drawing.answer)?;
+    Ok(Answer {
+        text: text.into_bytes(),
+        status: simulation_status(&drawing.answer),
+        notes,
+    })
+}
+
+/// The answer of `desk draw` on a set and a release list, as the words choose it.
+pub fn draw_both(alloc: Global, options: Options<'_>, both: &Both) -> Result<Answer, CommandRefusal>
+    ensures { DrawsBoth (chain_of options.entry) options.entry both.now result }
+{
+    match options.chain {
+        Some(word) => way_both(alloc, word, options, both),
+        None => run_both(alloc, options, both),
     }
 }

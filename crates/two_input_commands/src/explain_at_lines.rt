@@ -1,11 +1,11 @@
 //! `desk explain SET --at SETTINGS`.
 ghost use Rattle.std.specs.Prelude.{◌≡◌, ◌<◌, All, IfOk, option_map, string_bytes};
 ghost use Rattle.task_sheet.specs.declared.set.TheConstants.{TASK_LIMIT};
-ghost use Rattle.two_input_commands.specs.ExplainAt.{AreToldOf, ExplainsText, explained_at_lines};
+ghost use Rattle.two_input_commands.specs.ExplainAt.{AreToldOf, ExplainsBoth, ExplainsText, explained_at_lines};
 
-use crate::chained::{ChainsTold, tell_chains};
+use crate::chained::{ChainsTold, chained_status, notes_judged, tell_chains};
 use crate::in_order::judge_asked;
-use answering::CommandRefusal;
+use answering::{Answer, Both, CommandRefusal, Notes};
 use ceilings::{LockTable, Tabled};
 use chain_lines::Telling;
 use chain_tables::Chain;
@@ -16,15 +16,15 @@ use owners::Owner;
 use std::alloc::{AllocError, Global};
 use task_sheet::TaskSet;
 
-/// An order that settings give, explained.
+// An order that settings give, explained.
 #[derive(Drop)]
-pub struct ExplainedOrder {
-    /// What becomes of each task in it.
-    pub node: JudgedNode,
-    /// The task that is asked about, where one is.
-    pub asked: Option<usize>,
-    /// What is told of each level, the lowest first, or by slack where it was asked for; or of that task's.
-    pub levels: Vec<LevelRow>,
+struct ExplainedOrder {
+    // What becomes of each task in it.
+    node: JudgedNode,
+    // The task that is asked about, where one is.
+    asked: Option<usize>,
+    // What is told of each level, the lowest first, or by slack where it was asked for; or of that task's.
+    levels: Vec<LevelRow>,
 }
 
 // What is told of chains in an order; nothing where it is asked about one task.
@@ -46,9 +46,9 @@ fn told_of(
     }
 }
 
-/// What explains the order that the text of settings gives, with these chains, or the task that is asked about; its levels by
-/// slack where it is asked for.
-pub fn explain_at(
+// What explains the order that the text of settings gives, with these chains, or the task that is asked about; its levels by
+// slack where it is asked for.
+fn explain_at(
     alloc: Global,
     word: Option<&str>,
     sorted: bool,
@@ -73,9 +73,9 @@ pub fn explain_at(
     Ok((found, told))
 }
 
-/// What is printed of an explained order and of the chains in it: whether all tasks meet their deadlines, then the lines,
-/// each task with its team, and the chains.
-pub fn explained_at_text(
+// What is printed of an explained order and of the chains in it: whether all tasks meet their deadlines, then the lines,
+// each task with its team, and the chains.
+fn explained_at_text(
     alloc: Global,
     owners: &[Owner],
     tasks: &TaskSet,
@@ -91,4 +91,32 @@ pub fn explained_at_text(
     text.push_str(levels.as_str())?;
     text.push_str(told.text.as_str())?;
     Ok(text)
+}
+
+// What a person is told of it: of all tasks the lines say which chain misses its limit.
+fn notes_of(alloc: Global, both: &Both, found: &ExplainedOrder) -> Result<Notes, AllocError> {
+    match found.asked {
+        Some(_) => notes_judged(alloc, both, &found.node.judged),
+        None => Ok(Notes::none()),
+    }
+}
+
+/// The answer of `desk explain --at` on a set and the text of settings, by slack where it is asked for.
+pub fn explain_both(
+    alloc: Global,
+    word: Option<&str>,
+    sorted: bool,
+    both: &Both,
+) -> Result<Answer, CommandRefusal>
+    ensures { ExplainsBoth (option_map (λ w. w.now) word.entry) sorted both.now result }
+{
+    let (chains, tasks) = (&both.chains, &both.tasks);
+    let (found, told) = explain_at(alloc, word, sorted, chains, tasks, &both.text)?;
+    let text = explained_at_text(alloc, &both.owners, tasks, &found, &told)?;
+    let notes = notes_of(alloc, both, &found)?;
+    Ok(Answer {
+        text: text.into_bytes(),
+        status: chained_status(&found.node.judged, told.are_met),
+        notes,
+    })
 }

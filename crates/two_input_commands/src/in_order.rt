@@ -1,34 +1,23 @@
 //! Commands with `--at SETTINGS`.
-ghost use Rattle.std.specs.Prelude.{◌<◌, length, All, IfOk, IfSome, option_map};
+ghost use Rattle.std.specs.Prelude.{◌≡◌, ◌<◌, length, All, IfOk, IfSome, option_map, string_bytes};
 ghost use Rattle.task_sheet.specs.declared.set.TheConstants.{TASK_LIMIT};
-ghost use Rattle.two_input_commands.specs.InOrder.{AsksIn, AsksTask, JudgesOrder};
+ghost use Rattle.two_input_commands.specs.InOrder.{AsksIn, JudgesOrder};
+ghost use Rattle.two_input_commands.specs.Judge.{judged_status};
 
-use answering::{CommandRefusal, find_task, no_such_task};
+use crate::chained::notes_judged;
+use crate::judge_lines::judged_status;
+use answering::{Answer, Both, CommandRefusal, asked_task};
 use judge::{JudgedNode, judge_settings};
-use std::alloc::Global;
+use std::alloc::{AllocError, Global};
 use task_sheet::TaskSet;
 
-/// What is said of an order that settings give.
+// What is said of an order that settings give.
 #[derive(Drop)]
-pub struct InOrder {
-    /// What becomes of each task in it.
-    pub node: JudgedNode,
-    /// The lines.
-    pub text: String,
-}
-
-// The task that is asked about, where a word names one.
-fn asked_in(tasks: &TaskSet, word: Option<&str>) -> Result<Option<usize>, CommandRefusal>
-    ensures answer { AsksTask tasks.now (option_map (λ w. w.now) word.entry) result }
-    ensures within { IfOk result (λ asked. IfSome asked (λ task. task < length tasks.now)) }
-{
-    let Some(word) = word else {
-        return Ok(None);
-    };
-    match find_task(tasks, word) {
-        Some(task) => Ok(Some(task)),
-        None => Err(no_such_task(word)),
-    }
+pub(crate) struct InOrder {
+    // What becomes of each task in it.
+    pub(crate) node: JudgedNode,
+    // The lines.
+    pub(crate) text: String,
 }
 
 /// What becomes of each task in the order that the text of settings gives, in which each ceiling is the least.
@@ -55,6 +44,21 @@ pub(crate) fn judge_asked(
     ensures within { IfOk result (λ found. All (λ j. j.task < TASK_LIMIT) found.0.judged.items) }
 {
     let node = judge_order(alloc, tasks, text)?;
-    let asked = asked_in(tasks, word)?;
+    let asked = asked_task(tasks, word)?;
     Ok((node, asked))
+}
+
+// The answer on both that is said of an order. The error is out of memory.
+pub(crate) fn answer_in(alloc: Global, both: &Both, found: InOrder) -> Result<Answer, AllocError>
+    ensures text { IfOk result (λ answer. answer.text.items ≡ string_bytes found.text) }
+    ensures status { IfOk result (λ answer. answer.status ≡ judged_status found.node.judged.items) }
+{
+    let judged = &found.node.judged;
+    let notes = notes_judged(alloc, both, judged)?;
+    let status = judged_status(judged);
+    Ok(Answer {
+        text: found.text.into_bytes(),
+        status,
+        notes,
+    })
 }

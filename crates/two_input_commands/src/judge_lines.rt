@@ -1,10 +1,10 @@
 //! `desk judge`.
 ghost use Rattle.std.specs.Prelude.{◌≡◌, ◌<◌, All, IfOk, string_bytes};
 ghost use Rattle.task_sheet.specs.declared.set.TheConstants.{TASK_LIMIT};
-ghost use Rattle.two_input_commands.specs.Judge.{JudgesNode, JudgesText, judged_said, judged_status};
+ghost use Rattle.two_input_commands.specs.Judge.{JudgesBoth, JudgesNode, JudgesText, judged_said, judged_status};
 
-use crate::chained::{ChainsTold, tell_chains};
-use answering::{CommandRefusal, Status};
+use crate::chained::{ChainsTold, chained_status, tell_chains};
+use answering::{Answer, Both, CommandRefusal, Status};
 use chain_lines::Telling;
 use chain_tables::Chain;
 use judge::{JudgedNode, JudgedTask, all_meet, judge_given, judged_text};
@@ -24,9 +24,9 @@ fn judge_node(
     judge_given(alloc, tasks, lower_is_higher, text).map_err(CommandRefusal::Settings)
 }
 
-/// What becomes of a set's tasks in the order that the text of settings gives, by the ceilings of its mutexes, with the
-/// numbers of their threads; a smaller number may be the higher one. And what is told of these chains in that order.
-pub fn judge_text(
+// What becomes of a set's tasks in the order that the text of settings gives, by the ceilings of its mutexes, with the
+// numbers of their threads; a smaller number may be the higher one. And what is told of these chains in that order.
+fn judge_text(
     alloc: Global,
     lower_is_higher: bool,
     chains: &[Chain],
@@ -41,9 +41,9 @@ pub fn judge_text(
     Ok((node, told))
 }
 
-/// What is printed of an order that was judged, by slack where it is asked for, and of the chains in it. The error is out of
-/// memory.
-pub fn judged_said(
+// What is printed of an order that was judged, by slack where it is asked for, and of the chains in it. The error is out of
+// memory.
+fn judged_said(
     alloc: Global,
     sorted: bool,
     tasks: &TaskSet,
@@ -59,7 +59,7 @@ pub fn judged_said(
 }
 
 /// The exit status of an order.
-pub fn judged_status(judged: &[JudgedTask]) -> Status
+pub(crate) fn judged_status(judged: &[JudgedTask]) -> Status
     ensures { result ≡ judged_status judged.now }
 {
     if all_meet(judged) {
@@ -67,4 +67,19 @@ pub fn judged_status(judged: &[JudgedTask]) -> Status
     } else {
         Status::Infeasible
     }
+}
+
+/// The answer of `desk judge` on a set and the text of settings, by slack where it is asked for.
+pub fn judge_both(
+    alloc: Global,
+    lower_is_higher: bool,
+    sorted: bool,
+    both: &Both,
+) -> Result<Answer, CommandRefusal>
+    ensures { JudgesBoth lower_is_higher sorted both.now result }
+{
+    let (chains, tasks) = (&both.chains, &both.tasks);
+    let (node, told) = judge_text(alloc, lower_is_higher, chains, tasks, &both.text)?;
+    let text = judged_said(alloc, sorted, tasks, &node, &told)?;
+    Ok(Answer::new(text, chained_status(&node.judged, told.are_met)))
 }

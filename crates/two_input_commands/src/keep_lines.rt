@@ -5,9 +5,9 @@ ghost use Rattle.judge.specs.SettingFaults.{IsSettingsFault};
 ghost use Rattle.judge.specs.KeptOrder.{kept_fault};
 ghost use Rattle.judge.specs.Node.{AreNumbersIn};
 ghost use Rattle.task_sheet.specs.Orders.{IsOrder};
-ghost use Rattle.two_input_commands.specs.Keep.{HasOld, IsKeptIn, IsOldOf, KeepsText, are_kept_met, keeping_lines, keeping_status, parted_line};
+ghost use Rattle.two_input_commands.specs.Keep.{HasOld, IsKeptIn, IsOldOf, KeepsBoth, KeepsText, are_kept_met, keeping_lines, keeping_status, parted_line};
 
-use answering::{CommandRefusal, Status, infeasible_text};
+use answering::{Answer, Both, CommandRefusal, Notes, Status, infeasible_text};
 use assignment::{Place, tasks_of_places};
 use ceilings::{LockTable, Tabled};
 use chain_lines::all_met;
@@ -20,14 +20,14 @@ use settings::kept_text;
 use std::alloc::{AllocError, Global};
 use task_sheet::TaskSet;
 
-/// What becomes of a set that is to keep the order and the numbers of a node.
+// What becomes of a set that is to keep the order and the numbers of a node.
 #[derive(Drop)]
-pub struct KeptNode {
-    pub keeping: Keeping,
-    /// The numbers that the threads of the kept order have, one by one, and 0 of a task that has none.
-    pub old: Vec<u64>,
-    /// Whether the bound of each chain is within its limit in the kept order, where there is one.
-    pub are_met: bool,
+pub(crate) struct KeptNode {
+    keeping: Keeping,
+    // The numbers that the threads of the kept order have, one by one, and 0 of a task that has none.
+    old: Vec<u64>,
+    // Whether the bound of each chain is within its limit in the kept order, where there is one.
+    are_met: bool,
 }
 
 // The numbers that the threads of places have in the text of settings.
@@ -82,9 +82,9 @@ fn are_kept_met(
     }
 }
 
-/// What becomes of a set that is to keep the order that the text of settings gives, and the numbers that it has, and of the
-/// set's chains.
-pub fn keep_text(
+// What becomes of a set that is to keep the order that the text of settings gives, and the numbers that it has, and of the
+// set's chains.
+fn keep_text(
     alloc: Global,
     chains: &[Chain],
     tasks: &TaskSet,
@@ -129,9 +129,9 @@ fn parted_text(
     Ok(text)
 }
 
-/// The lines of what becomes of a set that is to keep an order and numbers, from the base on, with so much room beside those
-/// that are given anew.
-pub fn keeping_text(
+// The lines of what becomes of a set that is to keep an order and numbers, from the base on, with so much room beside those
+// that are given anew.
+fn keeping_text(
     alloc: Global,
     tasks: &TaskSet,
     base: u32,
@@ -150,12 +150,36 @@ pub fn keeping_text(
     }
 }
 
-/// The exit status of what becomes of a set that is to keep an order, and of its chains.
-pub fn keeping_status(node: &KeptNode) -> Status
+// The exit status of what becomes of a set that is to keep an order, and of its chains.
+fn keeping_status(node: &KeptNode) -> Status
     ensures { result ≡ keeping_status node.now }
 {
     match &node.keeping {
         Keeping::Kept(_) if node.are_met => Status::Done,
         _ => Status::Infeasible,
     }
+}
+
+// What a person is told of it.
+fn notes_of(node: &KeptNode) -> Notes {
+    let mut notes = Notes::none();
+    notes.is_keeping = true;
+    notes.misses_here = !node.are_met;
+    if let Keeping::Parted { low, high } = &node.keeping {
+        notes.parted = Some((*low, *high));
+    }
+    notes
+}
+
+/// The answer of `desk settings --keep` on a set and the text of settings, from a base on, with room.
+pub fn keep_both(alloc: Global, base: u32, room: u32, both: &Both) -> Result<Answer, CommandRefusal>
+    ensures { KeepsBoth base room both.now result }
+{
+    let node = keep_text(alloc, &both.chains, &both.tasks, &both.text)?;
+    let text = keeping_text(alloc, &both.tasks, base, room, &node)?;
+    Ok(Answer {
+        text: text.into_bytes(),
+        status: keeping_status(&node),
+        notes: notes_of(&node),
+    })
 }

@@ -1,4 +1,4 @@
-//! The commands of `desk` on a task set and a second input: what they find, and what is printed of it.
+//! The commands of `desk` on a task set and a second input, by their answers.
 #![tactic(auto)]
 
 mod beside;
@@ -19,18 +19,14 @@ mod view;
 mod way;
 mod worst_at_lines;
 
-pub use beside::{TwoRuns, beside_text, parts_of, print_beside};
-pub use chained::{ChainsTold, chained_status, met_judged};
-pub use check::{Shown, check_text};
-pub use diff_lines::{Compared, compare_text, compared_text};
-pub use draw::{Drawing, draw_text, print_drawing};
-pub use explain_at_lines::{ExplainedOrder, explain_at, explained_at_text};
-pub use in_order::InOrder;
-pub use judge_lines::{judge_text, judged_said, judged_status};
-pub use keep_lines::{KeptNode, keep_text, keeping_status, keeping_text};
-pub use limits_at_lines::limits_at;
-pub use observe_lines::{Observation, leeway_of, observe_text, print_observation, watch_text};
-pub use reached::{ReachedChains, reach_text};
-pub use simulate::{Run, Simulated, print_reached, print_simulated, simulate_text};
-pub use way::{DrawnWay, draw_way, print_way};
-pub use worst_at_lines::worst_at;
+pub use beside::{draw_beside_both, parts_of};
+pub use check::check_both;
+pub use diff_lines::compare_both;
+pub use draw::draw_both;
+pub use explain_at_lines::explain_both;
+pub use judge_lines::judge_both;
+pub use keep_lines::keep_both;
+pub use limits_at_lines::limit_both;
+pub use observe_lines::{leeway_of, observe_both};
+pub use simulate::simulate_both;
+pub use worst_at_lines::worst_both;

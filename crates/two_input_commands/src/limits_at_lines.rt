@@ -3,10 +3,10 @@ ghost use Rattle.std.specs.Prelude.{◌<◌, length, All, IfOk, IfSome, option_m
 ghost use Rattle.task_sheet.specs.declared.set.TheConstants.{TASK_LIMIT};
 ghost use Rattle.task_sheet.specs.Orders.{IsOrder};
 ghost use Rattle.judge.specs.Judgements.{order_judged};
-ghost use Rattle.two_input_commands.specs.LimitsAt.{ArePlacesOf, IsLimitsText, LimitsText};
+ghost use Rattle.two_input_commands.specs.LimitsAt.{ArePlacesOf, IsLimitsText, LimitsBoth, LimitsText};
 
-use crate::in_order::{InOrder, judge_asked};
-use answering::CommandRefusal;
+use crate::in_order::{InOrder, answer_in, judge_asked};
+use answering::{Answer, Both, CommandRefusal};
 use assignment::Place;
 use ceilings::{LockTable, Tabled};
 use chain_tables::Chain;
@@ -63,9 +63,9 @@ fn node_text(
     }
 }
 
-/// How far the numbers of a set may go in the order that the text of settings gives, or those of the task that is
-/// asked about, also with each of these chains met.
-pub fn limits_at(
+// How far the numbers of a set may go in the order that the text of settings gives, or those of the task that is
+// asked about, also with each of these chains met.
+fn limits_at(
     alloc: Global,
     word: Option<&str>,
     owners: &[Owner],
@@ -78,4 +78,14 @@ pub fn limits_at(
     let (node, asked) = judge_asked(alloc, word, tasks, text)?;
     let text = node_text(alloc, owners, chains, tasks, &node, asked)?;
     Ok(InOrder { node, text })
+}
+
+/// The answer of `desk limits --at` on a set and the text of settings.
+pub fn limit_both(alloc: Global, word: Option<&str>, both: &Both) -> Result<Answer, CommandRefusal>
+    ensures { LimitsBoth (option_map (λ w. w.now) word.entry) both.now result }
+{
+    let (owners, chains) = (&both.owners, &both.chains);
+    let found = limits_at(alloc, word, owners, chains, &both.tasks, &both.text)?;
+    let answer = answer_in(alloc, both, found)?;
+    Ok(answer)
 }

@@ -2,35 +2,33 @@
 ghost use Rattle.std.specs.Prelude.{◌≡◌, ◌<◌, ◌++◌, length, Ok, Err, [], IfOk, MatchResult, string_bytes};
 ghost use Rattle.observed_lines.specs.ObservedLines.{observed_lines};
 ghost use Rattle.trace_text.specs.TraceLines.{rows_at};
-ghost use Rattle.answering.specs.Outcomes.{IsSaidOn};
-ghost use Rattle.answering.specs.Printed.{IsPrinted};
-ghost use Rattle.two_input_commands.specs.Observe.{AreSilent, AreWatched, AreWatchedBy, AreWatchedIn, IsObservationOf, ObservesRead, ObservesText, ReadsBehind, ReadsTrace, WatchesText, leeway_of, observation_said, observation_status, observed_status};
+ghost use Rattle.two_input_commands.specs.Observe.{AreSilent, AreWatched, AreWatchedBy, AreWatchedIn, IsObservationOf, ObservesBoth, ObservesRead, ObservesText, ReadsBehind, ReadsTrace, WatchesText, leeway_of, observation_said, observation_status, observed_status};
 
 use crate::judge_lines::judged_status;
-use answering::{CommandRefusal, Status, joined, print_bytes, print_made, print_stuck};
+use answering::{Answer, Both, CommandRefusal, Notes, Status, infeasible_text, joined};
 use ceilings::{LockTable, Tabled};
+use chain_lines::all_met;
 use chain_tables::Chain;
 use chain_traces::{ChainsSeen, see_chains};
+use chains::Level;
 use command_line::Options;
 use judge::{JudgedNode, SettingRow, judge_rows, judged_text, places_of, read_front};
 use lines::TextPlace;
-use observed::{Observed, Sight, observe_at, observe_places};
+use observed::{Observed, Promise, Seen, Sight, observe_at, observe_places};
 use observed_lines::{Leeway, is_clean, observed_text};
 use std::alloc::{AllocError, Global};
-use std::io::Write;
-use streams::Watched;
-use task_sheet::{Members, TaskSet};
+use task_sheet::{Members, Name, TaskSet};
 use trace_text::{TraceLines, read_trace_at};
 
-/// What a trace shows of a set's tasks.
+// What a trace shows of a set's tasks.
 #[derive(Drop)]
-pub enum Observation {
-    /// The promises of an order in which all tasks meet their deadlines, and what is seen of each job: of the one that is given
-    /// in front of the trace, or else of the set's best one.
+pub(crate) enum Observation {
+    // The promises of an order in which all tasks meet their deadlines, and what is seen of each job: of the one that is given
+    // in front of the trace, or else of the set's best one.
     Seen { is_given: bool, observed: Observed },
-    /// No order passes, and none is given, so that nothing is promised: the members of the greatest obstruction.
+    // No order passes, and none is given, so that nothing is promised: the members of the greatest obstruction.
     Infeasible(Members),
-    /// In the order that is given some task misses its deadline, so that nothing is promised: what becomes of each.
+    // In the order that is given some task misses its deadline, so that nothing is promised: what becomes of each.
     Missed(JudgedNode),
 }
 
@@ -116,12 +114,8 @@ fn observe_behind(
     }
 }
 
-/// What the text of a trace shows of a set.
-pub fn observe_text(
-    alloc: Global,
-    tasks: &TaskSet,
-    text: &[u8],
-) -> Result<Observation, CommandRefusal>
+// What the text of a trace shows of a set.
+fn observe_text(alloc: Global, tasks: &TaskSet, text: &[u8]) -> Result<Observation, CommandRefusal>
     ensures answer { ObservesText tasks.now text.now result }
     ensures within { IfOk result IsObservationOf }
 {
@@ -221,8 +215,8 @@ fn watched(
     watched_by(alloc, leeway, chains, tasks, text, shown)
 }
 
-/// What the text of a trace shows of a set, and what is printed of these chains.
-pub fn watch_text(
+// What the text of a trace shows of a set, and what is printed of these chains.
+fn watch_text(
     alloc: Global,
     leeway: Leeway,
     chains: &[Chain],
@@ -249,11 +243,7 @@ fn observed_status(leeway: Leeway, shown: &Observed, told: &ChainsSeen) -> Statu
 }
 
 // The exit status of what a trace shows.
-pub(crate) fn observation_status(
-    leeway: Leeway,
-    observation: &Observation,
-    told: &ChainsSeen,
-) -> Status
+fn observation_status(leeway: Leeway, observation: &Observation, told: &ChainsSeen) -> Status
     ensures { result ≡ observation_status leeway observation.now told.now }
 {
     match observation {
@@ -277,30 +267,86 @@ fn seen_text(
     joined(alloc, lines.as_bytes(), told.text.as_bytes())
 }
 
-/// Prints what a trace shows of a set and of its chains, or that there was no memory for it.
-pub fn print_observation<W: Write + Drop>(
+// What is printed of what a trace shows of a set and of its chains.
+fn observation_said(
     alloc: Global,
-    tasks: &TaskSet,
     leeway: Leeway,
+    tasks: &TaskSet,
     shown: &Observation,
     told: &ChainsSeen,
-    output: &mut Watched<W>,
-) -> Status
+) -> Result<Vec<u8>, AllocError>
     requires { IsObservationOf shown.now }
-    ensures { IsSaidOn (λ before after s. IsPrinted before after
-        (observation_said leeway tasks.now shown.now told.now)
-        (observation_status leeway shown.now told.now) s) W.contents output.old output.new result }
+    ensures { IfOk result (λ text. text.items ≡ observation_said leeway tasks.now shown.now told.now) }
 {
-    let status = observation_status(leeway, shown, told);
-    match shown {
-        Observation::Seen { observed, .. } => {
-            print_bytes(seen_text(alloc, leeway, observed, told), status, output)
+    let text = match shown {
+        Observation::Seen { observed, .. } => return seen_text(alloc, leeway, observed, told),
+        Observation::Infeasible(members) => infeasible_text(alloc, tasks, *members)?,
+        Observation::Missed(node) => {
+            judged_text(alloc, false, tasks, &node.judged, &node.numbers)?
         }
-        Observation::Infeasible(members) => print_stuck(alloc, tasks, *members, output),
-        Observation::Missed(node) => print_made(
-            judged_text(alloc, false, tasks, &node.judged, &node.numbers),
-            status,
-            output,
-        ),
+    };
+    Ok(text.into_bytes())
+}
+
+// Whether a task of a name has one of the jobs.
+fn has_job(jobs: &[Seen], name: Name) -> bool {
+    jobs.iter().any(|job| job.promise.name == name)
+}
+
+// The tasks of a set of which a trace shows jobs.
+fn tasks_seen(tasks: &TaskSet, jobs: &[Seen]) -> Members {
+    let mut seen = Members::empty();
+    for (i, sheet) in tasks.sheets().iter().enumerate() {
+        if has_job(jobs, sheet.name()) {
+            seen = seen.with(i);
+        }
     }
+    seen
+}
+
+// The levels of an order with these promises.
+fn levels_promised(alloc: Global, promises: &[Promise]) -> Result<Vec<Level>, AllocError> {
+    let mut levels = Vec::with_capacity(alloc, promises.len())?;
+    for promise in promises {
+        levels.push(Level {
+            task: promise.task,
+            response: Some(promise.bound),
+        })?;
+    }
+    Ok(levels)
+}
+
+// Whether a chain misses its limit in an order with these promises.
+fn misses_promised(alloc: Global, both: &Both, promises: &[Promise]) -> Result<bool, AllocError> {
+    if both.chains.is_empty() {
+        return Ok(false);
+    }
+    let levels = levels_promised(alloc, promises)?;
+    let are_met = all_met(alloc, &both.tasks, &levels, &both.chains)?;
+    Ok(!are_met)
+}
+
+// What a person is told of what a trace shows. The error is out of memory.
+fn notes_of(alloc: Global, both: &Both, shown: &Observation) -> Result<Notes, AllocError> {
+    let mut notes = Notes::none();
+    if let Observation::Seen { is_given, observed } = shown {
+        notes.in_best_order = !*is_given;
+        notes.seen = Some(tasks_seen(&both.tasks, &observed.seen));
+        notes.misses_here = *is_given && misses_promised(alloc, both, &observed.promises)?;
+    }
+    Ok(notes)
+}
+
+/// The answer of `desk observe` on a set and a trace.
+pub fn observe_both(alloc: Global, leeway: Leeway, both: &Both) -> Result<Answer, CommandRefusal>
+    ensures { ObservesBoth leeway both.now result }
+{
+    let (shown, told) = watch_text(alloc, leeway, &both.chains, &both.tasks, &both.text)?;
+    let text = observation_said(alloc, leeway, &both.tasks, &shown, &told)?;
+    let notes = notes_of(alloc, both, &shown)?;
+    Ok(Answer {
+        text,
+        status: observation_status(leeway, &shown, &told),
+        notes,
+    })
 }

@@ -4,7 +4,8 @@ ghost use Rattle.chain_runs.specs.RunChainLines.{run_chains_said};
 ghost use Rattle.two_input_commands.specs.Simulate.{IsInOrder, ReachesText, chains_reached, level_of_bound};
 
 use crate::simulate::{Run, Simulated, simulate_text};
-use answering::CommandRefusal;
+use answering::{Both, CommandRefusal};
+use chain_lines::all_met;
 use chain_runs::run_chains_text;
 use chain_tables::Chain;
 use chains::Level;
@@ -12,10 +13,10 @@ use run_lines::TaskBound;
 use std::alloc::{AllocError, Global};
 use task_sheet::TaskSet;
 
-/// What is printed of a set's chains in a run.
+// What is printed of a set's chains in a run.
 #[derive(Drop)]
-pub struct ReachedChains {
-    pub text: String,
+pub(crate) struct ReachedChains {
+    pub(crate) text: String,
 }
 
 // The level of a task with a bound.
@@ -63,8 +64,8 @@ fn lines_reached(
     }
 }
 
-/// What a set and a release list's text come to, and the lines of these chains in the run.
-pub fn reach_text(
+// What a set and a release list's text come to, and the lines of these chains in the run.
+pub(crate) fn reach_text(
     alloc: Global,
     chains: &[Chain],
     tasks: &TaskSet,
@@ -76,4 +77,16 @@ pub fn reach_text(
     let answer = simulate_text(alloc, tasks, text)?;
     let text = lines_reached(alloc, tasks, chains, &answer)?;
     Ok((answer, ReachedChains { text }))
+}
+
+// Whether all tasks of a run meet their deadlines in an order that is not the best one, and a chain misses its limit there. The
+// error is out of memory.
+pub(crate) fn misses_listed(alloc: Global, both: &Both, run: &Run) -> Result<bool, AllocError> {
+    let all_meet = run.bounds.iter().all(|entry| entry.bound.is_some());
+    if both.chains.is_empty() || !run.is_listed || !all_meet {
+        return Ok(false);
+    }
+    let levels = levels_of(alloc, &run.bounds)?;
+    let are_met = all_met(alloc, &both.tasks, &levels, &both.chains)?;
+    Ok(!are_met)
 }

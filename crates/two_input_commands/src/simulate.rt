@@ -1,18 +1,16 @@
 //! `desk simulate`.
-ghost use Rattle.std.specs.Prelude.{◌≡◌, ◌<◌, ◌++◌, length, Ok, [], IfOk, string_bytes};
+ghost use Rattle.std.specs.Prelude.{◌≡◌, ◌<◌, ◌++◌, length, Ok, [], IfOk, string_bytes, true, false};
 ghost use Rattle.task_sheet.specs.Orders.{IsBest, IsOrder};
 ghost use Rattle.assignment.specs.Placings.{tasks_of_places};
 ghost use Rattle.ceiling_kernel.specs.Tick.{node_in};
 ghost use Rattle.release_list.specs.Reading.{list_at};
 ghost use Rattle.run_lines.specs.RunLines.{task_lines};
 ghost use Rattle.run_lines.specs.TaskBounds.{tasks_of_bounds};
-ghost use Rattle.answering.specs.Outcomes.{IsSaidOn};
-ghost use Rattle.answering.specs.Printed.{IsPrinted};
-ghost use Rattle.two_input_commands.specs.Simulate.{IsInOrder, RunsOrder, RunsOrderCut, SimulatesIn, SimulatesRead, SimulatesText, bounds_judged, reached_said, simulation_said, simulation_status};
+ghost use Rattle.two_input_commands.specs.Simulate.{IsInOrder, RunsOrder, RunsOrderCut, SimulatesIn, SimulatesBoth, SimulatesRead, SimulatesText, bounds_judged, reached_said, simulation_said, simulation_status};
 
 use crate::chained::response_judged;
-use crate::reached::ReachedChains;
-use answering::{CommandRefusal, Status, print_made, print_stuck};
+use crate::reached::{ReachedChains, misses_listed, reach_text};
+use answering::{Answer, Both, CommandRefusal, Notes, Status, infeasible_text};
 use assignment::{Place, Placing, place_all, tasks_of_places};
 use ceiling_kernel::{Kernel, KernelFault, Release, Trace};
 use ceilings::{LockTable, Tabled};
@@ -23,30 +21,28 @@ use printed_runs::trace_text;
 use release_list::read_releases;
 use run_lines::{TaskBound, bounds_of, tasks_text};
 use std::alloc::{AllocError, Global};
-use std::io::Write;
-use streams::Watched;
 use task_sheet::{Members, Name, TaskSet};
 
-/// A run of a set's tasks in an order of theirs, up to its list's end or to the first overrun.
+// A run of a set's tasks in an order of theirs, up to its list's end or to the first overrun.
 #[derive(Drop)]
-pub struct Run {
-    /// The lowest level first, each task with its response where it meets its deadline.
-    pub bounds: Vec<TaskBound>,
-    /// Whether the release list gives the order; else it is the set's best one, in which nothing overruns.
-    pub is_listed: bool,
-    /// The task whose job becomes ready at the end, while the one before it isn't finished, if there is one.
-    pub overrun: Option<Name>,
-    /// In microseconds.
-    pub until: u64,
-    pub releases: Vec<Release>,
-    /// What happened.
-    pub trace: Trace,
+pub(crate) struct Run {
+    // The lowest level first, each task with its response where it meets its deadline.
+    pub(crate) bounds: Vec<TaskBound>,
+    // Whether the release list gives the order; else it is the set's best one, in which nothing overruns.
+    pub(crate) is_listed: bool,
+    // The task whose job becomes ready at the end, while the one before it isn't finished, if there is one.
+    pub(crate) overrun: Option<Name>,
+    // In microseconds.
+    pub(crate) until: u64,
+    pub(crate) releases: Vec<Release>,
+    // What happened.
+    pub(crate) trace: Trace,
 }
 
-/// What a simulation comes to.
+// What a simulation comes to.
 #[derive(Drop)]
-pub enum Simulated {
-    /// No order of the set passes, and nothing was run: the members of the greatest obstruction.
+pub(crate) enum Simulated {
+    // No order of the set passes, and nothing was run: the members of the greatest obstruction.
     Infeasible(Members),
     Ran(Run),
 }
@@ -235,8 +231,8 @@ fn simulate_front(
     }
 }
 
-/// What a set and a release list's text come to.
-pub fn simulate_text(
+// What a set and a release list's text come to.
+pub(crate) fn simulate_text(
     alloc: Global,
     tasks: &TaskSet,
     text: &[u8],
@@ -266,40 +262,101 @@ fn reached_text(
     Ok(text)
 }
 
-/// Prints the lines of the trace of a run, or why there is none.
-pub fn print_simulated<W: Write + Drop>(
-    alloc: Global,
-    tasks: &TaskSet,
-    answer: &Simulated,
-    output: &mut Watched<W>,
-) -> Status
-    ensures { IsSaidOn (λ before after s. IsPrinted before after (simulation_said tasks.now answer.now)
-        (simulation_status answer.now) s) W.contents output.old output.new result }
+// The lines of the trace of a run, or why there is none.
+fn simulated_text(alloc: Global, set: &TaskSet, answer: &Simulated) -> Result<String, AllocError>
+    ensures { IfOk result (λ text. string_bytes text ≡ simulation_said set.now answer.now) }
 {
     match answer {
-        Simulated::Ran(run) => print_made(trace_text(alloc, &run.trace), Status::Done, output),
-        Simulated::Infeasible(members) => print_stuck(alloc, tasks, *members, output),
+        Simulated::Ran(run) => trace_text(alloc, &run.trace),
+        Simulated::Infeasible(members) => infeasible_text(alloc, set, *members),
     }
 }
 
-/// Prints what the tasks came to in a run, and then what is told of the chains, or why there is no run.
-pub fn print_reached<W: Write + Drop>(
+// The lines of what the tasks and the chains came to in a run, or why there is none.
+fn tasks_reached(
     alloc: Global,
-    tasks: &TaskSet,
+    set: &TaskSet,
     answer: &Simulated,
     told: &ReachedChains,
-    output: &mut Watched<W>,
-) -> Status
-    requires { IsInOrder tasks.now answer.now }
-    ensures { IsSaidOn (λ before after s. IsPrinted before after (reached_said tasks.now told.now answer.now)
-        (simulation_status answer.now) s) W.contents output.old output.new result }
+) -> Result<String, AllocError>
+    requires { IsInOrder set.now answer.now }
+    ensures { IfOk result (λ text. string_bytes text ≡ reached_said set.now told.now answer.now) }
 {
     match answer {
-        Simulated::Ran(run) => print_made(
-            reached_text(alloc, tasks, run, told),
-            Status::Done,
-            output,
-        ),
-        Simulated::Infeasible(members) => print_stuck(alloc, tasks, *members, output),
+        Simulated::Ran(run) => reached_text(alloc, set, run, told),
+        Simulated::Infeasible(members) => infeasible_text(alloc, set, *members),
+    }
+}
+
+/// The exit status of what came of a set.
+pub(crate) fn simulation_status(answer: &Simulated) -> Status
+    ensures { result ≡ simulation_status answer.now }
+{
+    match answer {
+        Simulated::Ran(_) => Status::Done,
+        Simulated::Infeasible(_) => Status::Infeasible,
+    }
+}
+
+/// What a person is told of what came of a set, but of its chains.
+pub(crate) fn run_notes(answer: &Simulated) -> Notes {
+    let mut notes = Notes::none();
+    if let Simulated::Ran(run) = answer {
+        notes.is_run = true;
+        notes.in_best_order = !run.is_listed;
+        notes.overruns[0] = run.overrun;
+    }
+    notes
+}
+
+/// The same with them. The error is out of memory.
+pub(crate) fn notes_run(
+    alloc: Global,
+    both: &Both,
+    answer: &Simulated,
+) -> Result<Notes, AllocError> {
+    let mut notes = run_notes(answer);
+    if let Simulated::Ran(run) = answer {
+        notes.misses_here = misses_listed(alloc, both, run)?;
+    }
+    Ok(notes)
+}
+
+// The answer of `desk simulate` on a set and a release list, as the lines of a trace.
+fn trace_both(alloc: Global, both: &Both) -> Result<Answer, CommandRefusal>
+    ensures { SimulatesBoth false both.now result }
+{
+    let found = simulate_text(alloc, &both.tasks, &both.text)?;
+    let text = simulated_text(alloc, &both.tasks, &found)?;
+    let notes = notes_run(alloc, both, &found)?;
+    Ok(Answer {
+        text: text.into_bytes(),
+        status: simulation_status(&found),
+        notes,
+    })
+}
+
+// The same by task.
+fn reach_both(alloc: Global, both: &Both) -> Result<Answer, CommandRefusal>
+    ensures { SimulatesBoth true both.now result }
+{
+    let (found, told) = reach_text(alloc, &both.chains, &both.tasks, &both.text)?;
+    let text = tasks_reached(alloc, &both.tasks, &found, &told)?;
+    let notes = notes_run(alloc, both, &found)?;
+    Ok(Answer {
+        text: text.into_bytes(),
+        status: simulation_status(&found),
+        notes,
+    })
+}
+
+/// The answer of `desk simulate` on a set and a release list: the lines of a trace, or by task.
+pub fn simulate_both(alloc: Global, by_task: bool, both: &Both) -> Result<Answer, CommandRefusal>
+    ensures { SimulatesBoth by_task both.now result }
+{
+    if by_task {
+        reach_both(alloc, both)
+    } else {
+        trace_both(alloc, both)
     }
 }

@@ -1,19 +1,17 @@
 //! `desk draw` with `--chain`.
-ghost use Rattle.std.specs.Prelude.{◌≡◌, ◌≤◌, IfOk, length};
+ghost use Rattle.std.specs.Prelude.{◌≡◌, ◌≤◌, IfOk, Some, length};
 ghost use Rattle.task_sheet.specs.Orders.{IsOrder};
 ghost use Rattle.task_sheet.specs.declared.set.TheConstants.{TASK_LIMIT};
-ghost use Rattle.answering.specs.Outcomes.{IsSaidOn};
-ghost use Rattle.answering.specs.Printed.{IsPrinted};
 ghost use Rattle.drawn_ways.specs.WayTexts.{way_of};
 ghost use Rattle.run_lines.specs.TaskBounds.{tasks_of_bounds};
-ghost use Rattle.two_input_commands.specs.Simulate.{IsInOrder, simulation_status};
+ghost use Rattle.two_input_commands.specs.Simulate.{IsInOrder};
 ghost use Rattle.chains.specs.Parts.{bound_in};
-ghost use Rattle.two_input_commands.specs.Way.{DrawsWay, IsViewWith, IsWayOf, answer_drawn, name_at, names_at, picture_with, rows_drawn, rows_with, told_bound, way_said, way_with};
+ghost use Rattle.two_input_commands.specs.Way.{DrawsBoth, DrawsWay, IsViewWith, IsWayOf, answer_drawn, name_at, names_at, picture_with, rows_drawn, rows_with, told_bound, way_with};
 
 use crate::draw::{Drawing, draw_text, rows_in_view};
 use crate::reached::levels_of;
-use crate::simulate::{Run, Simulated};
-use answering::{CommandRefusal, Status, find_chain, no_such_chain, print, print_stuck};
+use crate::simulate::{Run, Simulated, notes_run, simulation_status};
+use answering::{Answer, Both, CommandRefusal, find_chain, infeasible_text, no_such_chain};
 use chain_tables::Chain;
 use chains::{Level, bound_of};
 use command_line::Options;
@@ -22,17 +20,15 @@ use frames::{TaskRow, View, frame_of, shown_of};
 use judge::SettingRow;
 use picture::draw;
 use std::alloc::{AllocError, Global};
-use std::io::Write;
-use streams::Watched;
 use task_sheet::{Name, TaskSet};
 
-/// What came of a set and a release list, and the picture of it with the way of a chain's datum.
+// What came of a set and a release list, and the picture of it with the way of a chain's datum.
 #[derive(Drop)]
-pub struct DrawnWay {
-    /// As `desk simulate` answers.
-    pub answer: Simulated,
-    /// An SVG 1.1 document; nothing where no order passes.
-    pub text: Vec<u8>,
+pub(crate) struct DrawnWay {
+    // As `desk simulate` answers.
+    answer: Simulated,
+    // An SVG 1.1 document, or the line of an obstruction.
+    text: Vec<u8>,
 }
 
 // The name of a task of a set.
@@ -167,7 +163,7 @@ fn picture_with(
     rows_drawn(alloc, set, &rows, view, run, &way)
 }
 
-// The same of what came of a set; nothing where no order passes.
+// The same of what came of a set; where no order passes the line of the obstruction.
 fn answer_drawn(
     alloc: Global,
     set: &TaskSet,
@@ -182,7 +178,10 @@ fn answer_drawn(
 {
     match answer {
         Simulated::Ran(run) => picture_with(alloc, set, settings, view, chain, run),
-        Simulated::Infeasible(_) => Ok(Vec::new(alloc)),
+        Simulated::Infeasible(members) => {
+            let text = infeasible_text(alloc, set, *members)?;
+            Ok(text.into_bytes())
+        }
     }
 }
 
@@ -204,9 +203,9 @@ fn way_drawn(
     })
 }
 
-/// What came of a set with chains and the text of a release list, drawn with the way of the datum of the chain that a word names.
+// What came of a set with chains and the text of a release list, drawn with the way of the datum of the chain that a word names.
 #[tactic(auto, using(crate::proofs::Ways::undrawn, crate::proofs::Ways::unknown))]
-pub fn draw_way(
+fn draw_way(
     alloc: Global,
     word: &str,
     options: Options<'_>,
@@ -227,19 +226,21 @@ pub fn draw_way(
     }
 }
 
-/// Prints it, or why there is no run.
-pub fn print_way<W: Write + Drop>(
+/// The answer of `desk draw` on a set and a release list, where a chain is named.
+pub(crate) fn way_both(
     alloc: Global,
-    tasks: &TaskSet,
-    found: &DrawnWay,
-    output: &mut Watched<W>,
-) -> Status
-    ensures { IsSaidOn (λ before after s. IsPrinted before after
-        (way_said tasks.now found.now found.now.answer)
-        (simulation_status found.now.answer) s) W.contents output.old output.new result }
+    word: &str,
+    options: Options<'_>,
+    both: &Both,
+) -> Result<Answer, CommandRefusal>
+    ensures { DrawsBoth (Some word.now) options.entry both.now result }
 {
-    match &found.answer {
-        Simulated::Ran(_) => print(&found.text, Status::Done, output),
-        Simulated::Infeasible(members) => print_stuck(alloc, tasks, *members, output),
-    }
+    let found = draw_way(alloc, word, options, &both.chains, &both.tasks, &both.text)?;
+    let status = simulation_status(&found.answer);
+    let notes = notes_run(alloc, both, &found.answer)?;
+    Ok(Answer {
+        text: found.text,
+        status,
+        notes,
+    })
 }

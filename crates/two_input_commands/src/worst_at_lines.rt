@@ -2,11 +2,11 @@
 ghost use Rattle.std.specs.Prelude.{IfOk, option_map, string_bytes};
 ghost use Rattle.task_sheet.specs.Orders.{IsOrder};
 ghost use Rattle.judge.specs.Judgements.{order_judged};
-ghost use Rattle.two_input_commands.specs.WorstAt.{AreChainLinesIn, WorstsChain, WorstsTask, WorstsText};
+ghost use Rattle.two_input_commands.specs.WorstAt.{AreChainLinesIn, WorstsBoth, WorstsChain, WorstsTask, WorstsText};
 
 use crate::chained::levels_judged;
-use crate::in_order::{InOrder, judge_asked, judge_order};
-use answering::{CommandRefusal, find_chain, no_such_chain};
+use crate::in_order::{InOrder, answer_in, judge_asked, judge_order};
+use answering::{Answer, Both, CommandRefusal, find_chain, no_such_chain};
 use chain_tables::Chain;
 use chain_worst::chain_worst_text;
 use judge::JudgedNode;
@@ -64,9 +64,9 @@ fn chain_at(
     }
 }
 
-/// What is shown in the order that the text of settings gives of the chain that is asked about, else of the task, or of another
-/// one.
-pub fn worst_at(
+// What is shown in the order that the text of settings gives of the chain that is asked about, else of the task, or of another
+// one.
+fn worst_at(
     alloc: Global,
     chain: Option<&str>,
     task: Option<&str>,
@@ -81,4 +81,19 @@ pub fn worst_at(
         Some(word) => chain_at(alloc, word, chains, tasks, text),
         None => task_at(alloc, task, tasks, text),
     }
+}
+
+/// The answer of `desk worst --at` on a set and the text of settings.
+pub fn worst_both(
+    alloc: Global,
+    chain: Option<&str>,
+    task: Option<&str>,
+    both: &Both,
+) -> Result<Answer, CommandRefusal>
+    ensures { WorstsBoth (option_map (λ w. w.now) chain.entry) (option_map (λ w. w.now) task.entry)
+        both.now result }
+{
+    let found = worst_at(alloc, chain, task, &both.chains, &both.tasks, &both.text)?;
+    let answer = answer_in(alloc, both, found)?;
+    Ok(answer)
 }

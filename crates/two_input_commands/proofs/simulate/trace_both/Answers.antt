@@ -1,0 +1,10 @@
+use Rattle.std.proofs.Common.{◌∙◌, ap}
+use Rattle.two_input_commands.proofs.simulate.trace_both.Goals as goal
+
+pub returns : goal.returns
+returns c = (
+  c.in_ok-found.found,
+  rw c.deref.ensures.value at c.in_ok-found.ensures.answer,
+  ap (λ v. v.items) c.into_bytes.ensures.value ∙ c.in_ok-text.ensures,
+  c.simulation_status.ensures,
+)
