@@ -23,7 +23,7 @@ use sentences::{
 use std::alloc::{AllocError, Global};
 use std::io::Write;
 use streams::{Watched, WriteFailed};
-use task_sheet::{Members, Name, TaskSet};
+use task_sheet::{Members, Name, Preference, TaskSet};
 
 /// Tells a person what is wrong with an input, and what is odd in a set. A sentence for which memory runs out, or that
 /// can't be written, is dropped: no answer and no status rests on it.
@@ -438,6 +438,13 @@ impl<'a, W: Write + Drop> Advice<'a, W> {
         }
     }
 
+    // That the call prefers otherwise than a set, or than the new one, if it does.
+    fn put_overridden(&mut self, call: Preference, own: Preference, is_new: bool) {
+        if call != own {
+            let _ = put_override(call, own, is_new, &mut self.errors);
+        }
+    }
+
     // That a chain misses its limit in the order that an answer speaks of, and has no line on it.
     fn put_missed(&mut self, status: Status) {
         if status != Status::Done && status != Status::Infeasible {
@@ -535,7 +542,10 @@ impl<'a, W: Write + Drop> Audience for Advice<'a, W> {
         self.misses_in_new = true;
     }
 
-    fn compared(&mut self, new: &TaskSet) {
+    fn compared(&mut self, new: &TaskSet, choice: Choice) {
+        if let (Some(call), Some(own)) = (choice.call, choice.own) {
+            self.put_overridden(call, own, true);
+        }
         self.lacks_in_new = is_of_two(self.call) && leaves_out(new);
         let _ = self.put_oddities(new);
     }
@@ -550,9 +560,7 @@ impl<'a, W: Write + Drop> Audience for Advice<'a, W> {
             self.set = set.copy(self.alloc).ok();
         }
         match (choice.call, choice.own) {
-            (Some(call), Some(own)) if call != own => {
-                let _ = put_override(call, own, &mut self.errors);
-            }
+            (Some(call), Some(own)) => self.put_overridden(call, own, false),
             (None, None) => self.is_unpreferred = true,
             _ => {}
         }

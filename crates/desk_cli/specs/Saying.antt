@@ -1,9 +1,6 @@
 -- What a command says once its inputs are read.
 use Rattle.std.specs.Prelude.{ℕ, List, Option, Err}
 use Rattle.command_line.specs.declared.calls.Options.{Options}
-use Rattle.task_sheet.specs.Sheet.{Task}
-use Rattle.task_sheet.specs.declared.prefer.Preference.{Preference}
-use Rattle.task_lines.specs.declared.owner.Owner.{Owner}
 use Rattle.command_line.specs.declared.calls.OfOne.{OfOne}
 use Rattle.command_line.specs.declared.calls.OfOne.TheVariants.{Certify, Script, Play}
 use Rattle.command_line.specs.declared.calls.OfTwo.{OfTwo}
@@ -11,10 +8,11 @@ use Rattle.desk_cli.specs.Commands.{OneSays, TwoSay, first_asking, most_of}
 use Rattle.answering.specs.Chosen.{asking_of}
 use Rattle.script_commands.specs.Play.{Scripts}
 use Rattle.answering.specs.Sets.{HasNoSet}
-use Rattle.answering.specs.Owning.{HasChained, HasOwned, HaveOwned}
-use Rattle.chain_tables.specs.Chains.{ChainData}
+use Rattle.answering.specs.OnBoth.{HaveBoth}
+use Rattle.set_commands.specs.OnSet.{HasPlaced}
 use Rattle.set_commands.specs.declared.chained.Placed.{Placed}
 use Rattle.answering.specs.declared.refusal.CommandRefusal.{CommandRefusal}
+use Rattle.answering.specs.declared.sets.Both.{Both}
 use Rattle.answering.specs.declared.status.Status.{Status}
 
 -- why a command of one input has no answer
@@ -29,21 +27,14 @@ IsOfPlacing Script = ⊥
 IsOfPlacing Play = ⊥
 IsOfPlacing _ = Unit {0}
 
--- what a command says of each reader that has this set, which was placed, whose tasks these have, and its chains, by what the
--- words choose
+-- what a command says of each reader that has this set, which was placed, by what the words choose
 abbrev pub SaysOfSet :
     OfOne → Options → Placed → (before after : Option (List ℕ)) → Status → Type 0
 SaysOfSet command options placed before after s =
-    (known : Option (List ℕ)) → HasOwned (asking_of options) known placed.tasks placed.owners.items
-    → HasChained known placed.tasks placed.chains.items
-    → OneSays command options known before after s
+    (known : Option (List ℕ)) → HasPlaced (asking_of options) known placed → OneSays command options known before after s
 
--- what a command says of each two readers that have this set, taken by this preference, with its chains, and this text, by what
--- the words choose
-abbrev pub SaysOfBoth :
-    OfTwo → Options → Preference → List Owner → List ChainData → List Task → List ℕ
-    → (before after : Option (List ℕ)) → Status → Type 0
-SaysOfBoth command options by owners chains U text before after s =
-    (set other : Option (List ℕ))
-    → HaveOwned (most_of command) (first_asking command options) set other by U owners text → HasChained set U chains
+-- what a command says of each two readers that have this set and this text, by what the words choose
+abbrev pub SaysOfBoth : OfTwo → Options → Both → (before after : Option (List ℕ)) → Status → Type 0
+SaysOfBoth command options both before after s =
+    (set other : Option (List ℕ)) → HaveBoth (most_of command) (first_asking command options) set other both
     → TwoSay command options set other before after s

@@ -1,21 +1,48 @@
 //! The commands of one input.
-ghost use Rattle.desk_cli.specs.Commands.{OneSays};
+ghost use Rattle.desk_cli.specs.Commands.{OneAnswer, OneSays};
 ghost use Rattle.desk_cli.specs.Saying.{IsOfPlacing, SaysOfSet};
 ghost use Rattle.set_commands.specs.Chained.{IsPlaced};
 ghost use Rattle.answering.specs.Outcomes.{IsCarriedOut, IsSaidOn};
 
-use answering::{Audience, Status, asking_of, base_of, is_sorted, refuse, room_of};
+use answering::{
+    Answer, Audience, CommandRefusal, Status, asking_of, base_of, is_sorted, print_answer, refuse,
+    room_of,
+};
 use command_line::{OfOne, Options};
 use script_commands::{lines_of, play};
 use set_commands::{
-    Placed, TaskPart, certified, place, print_certificate, run_script, say_admitted, say_part,
-    say_settings, say_worst,
+    Placed, admit_set, certified, explain_set, limit_set, place, print_certificate, run_script,
+    settle_set, worst_set,
 };
 use std::alloc::Global;
 use std::io::{Read, Write};
 use streams::Watched;
 
-// Prints what a command says of a set that was placed.
+// The answer of a command on a set that was placed.
+fn answer_set(
+    alloc: Global,
+    command: OfOne,
+    options: Options<'_>,
+    placed: &Placed,
+) -> Result<Answer, CommandRefusal>
+    requires command { IsOfPlacing command }
+    requires placed { IsPlaced placed.now }
+    ensures { OneAnswer command options.entry placed.now result }
+{
+    let (task, sorted) = (options.task, is_sorted(options));
+    match command {
+        OfOne::Admit => admit_set(alloc, sorted, placed),
+        OfOne::Limits => limit_set(alloc, task, placed),
+        OfOne::Settings => settle_set(alloc, base_of(options), room_of(options), placed),
+        OfOne::Explain => explain_set(alloc, options.all, sorted, task, placed),
+        OfOne::Worst => worst_set(alloc, options.chain, task, placed),
+        OfOne::Certify => unreachable!(),
+        OfOne::Script => unreachable!(),
+        OfOne::Play => unreachable!(),
+    }
+}
+
+// Prints it.
 fn say_placing<W: Write + Drop>(
     alloc: Global,
     command: OfOne,
@@ -28,23 +55,8 @@ fn say_placing<W: Write + Drop>(
     ensures { IsSaidOn (SaysOfSet command options.entry placed.now)
         W.contents output.old output.new result }
 {
-    let task = options.task;
-    match command {
-        OfOne::Admit => say_admitted(alloc, is_sorted(options), placed, output),
-        OfOne::Limits => say_part(alloc, TaskPart::Limits, task, placed, output),
-        OfOne::Settings => say_settings(alloc, base_of(options), room_of(options), placed, output),
-        OfOne::Explain => {
-            let part = TaskPart::Reasons {
-                all: options.all,
-                sorted: is_sorted(options),
-            };
-            say_part(alloc, part, task, placed, output)
-        }
-        OfOne::Worst => say_worst(alloc, options.chain, task, placed, output),
-        OfOne::Certify => unreachable!(),
-        OfOne::Script => unreachable!(),
-        OfOne::Play => unreachable!(),
-    }
+    let answer = answer_set(alloc, command, options, placed);
+    print_answer(&answer, output)
 }
 
 /// A command of one input: reads a task set or a script, and prints what docs/FORMATS.md says of the command and of

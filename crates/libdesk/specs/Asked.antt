@@ -5,10 +5,9 @@ use Rattle.command_line.specs.declared.calls.Options.{Options}
 use Rattle.command_line.specs.declared.calls.OfTwo.TheVariants.{Draw}
 use Rattle.desk_cli.specs.Commands.{OneSays, TwoSay}
 use Rattle.answering.specs.Chosen.{asking_of, chain_of}
-use Rattle.set_commands.specs.OneTask.{SaysPart}
-use Rattle.set_commands.specs.declared.one_task.TaskPart.TheVariants as part
+use Rattle.set_commands.specs.OnSet.{SaysOnSet}
 use Rattle.set_commands.specs.Releases.{SaysList}
-use Rattle.set_commands.specs.WorstChain.{SaysWorstOf}
+use Rattle.set_commands.specs.Worst.{WorstsSet}
 use Rattle.two_input_commands.specs.Beside.{list_of, new_of}
 use Rattle.answering.specs.declared.status.Status.{Status}
 use Rattle.libdesk.specs.declared.asked.Asked.{Asked}
@@ -23,14 +22,14 @@ AsksAbout (byte ∷ bytes) word =
 -- the worst case of the task with a name, or that of the one that the set's verdict is about
 abbrev pub SaysWorstAsked : (set name : List ℕ) → (before after : Option (List ℕ)) → Status → Type 0
 SaysWorstAsked set name before after s =
-    (word : Option (List ℕ)) × AsksAbout name word × SaysPart part.Worst word (asking_of no_options)
-    (Some set) before after s
+    (word : Option (List ℕ)) × AsksAbout name word
+    × SaysOnSet (WorstsSet None word) (asking_of no_options) (Some set) before after s
 
 -- the run that the bound of the chain with a name describes; without a name the worst case that the set's verdict is about
 abbrev pub SaysChainAsked : (set name : List ℕ) → (before after : Option (List ℕ)) → Status → Type 0
 SaysChainAsked set name before after s =
-    (word : Option (List ℕ)) × AsksAbout name word × SaysWorstOf word None (asking_of no_options)
-    (Some set) before after s
+    (word : Option (List ℕ)) × AsksAbout name word
+    × SaysOnSet (WorstsSet word None) (asking_of no_options) (Some set) before after s
 
 -- nothing is chosen but the chain with a name
 abbrev pub ChoosesChain : (name : List ℕ) → Options → Type 0

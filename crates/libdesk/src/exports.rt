@@ -1,23 +1,14 @@
 //! The functions that a program in C calls: a command each, and what a person is told.
-ghost use Rattle.std.specs.Prelude.{◌≡◌, length, IfSome, None, Some, false, true};
-ghost use Rattle.set_commands.specs.Admit.{SaysAdmitted, SaysSettings};
-ghost use Rattle.set_commands.specs.Certify.{SaysCertified};
-ghost use Rattle.two_input_commands.specs.Beside.{SaysBeside};
-ghost use Rattle.two_input_commands.specs.Check.{SaysChecked};
-ghost use Rattle.two_input_commands.specs.Diff.{SaysCompared};
+ghost use Rattle.std.specs.Prelude.{◌≡◌, length, IfSome, None, Some};
 ghost use Rattle.command_line.specs.Calls.{no_options};
-ghost use Rattle.two_input_commands.specs.Draw.{SaysDrawn};
-ghost use Rattle.set_commands.specs.Explain.{SaysExplained};
-ghost use Rattle.set_commands.specs.Limits.{SaysLimits};
-ghost use Rattle.two_input_commands.specs.Judge.{SaysJudged};
-ghost use Rattle.two_input_commands.specs.Observe.{SaysObserved, leeway_of};
-ghost use Rattle.script_commands.specs.Play.{SaysPlayed};
+ghost use Rattle.command_line.specs.declared.calls.OfOne.TheVariants.{Admit, Certify, Explain, Limits, Play, Settings};
+ghost use Rattle.command_line.specs.declared.calls.OfTwo.TheVariants.{Check, Diff, Draw, DrawBeside, Judge, Observe, Simulate};
+ghost use Rattle.desk_cli.specs.Commands.{OneSays, TwoSay};
 ghost use Rattle.set_commands.specs.Releases.{SaysList};
-ghost use Rattle.two_input_commands.specs.Simulate.{SaysSimulated};
 ghost use Rattle.answering.specs.Chosen.{asking_of};
 ghost use Rattle.answering.specs.Statuses.{code_of};
 ghost use Rattle.libdesk.specs.Answers.{AnswersCall, TellsCall};
-ghost use Rattle.libdesk.specs.Asked.{AskedSays, SaysChainAsked, SaysWayAsked, SaysWorstAsked};
+ghost use Rattle.libdesk.specs.Asked.{AskedSays, SaysChainAsked, SaysWayAsked, SaysWorstAsked, all_options};
 ghost use Rattle.libdesk.specs.Numbers.{command_of};
 
 use crate::asked::{Asked, answer};
@@ -30,8 +21,7 @@ use std::alloc::Global;
 #[unsafe(no_mangle)]
 pub extern "C" fn desk_admit(alloc: Global, set: &[u8], room: &mut [u8], status: &mut u8) -> usize
     ensures room { length room.new ≡ length room.old }
-    ensures answer { AnswersCall (SaysAdmitted false (asking_of no_options)
-        (Some set.now)) room.old room.new result status.new }
+    ensures answer { AnswersCall (OneSays Admit all_options (Some set.now)) room.old room.new result status.new }
 {
     answer(alloc, Asked::One(OfOne::Admit, set), room, status)
 }
@@ -40,8 +30,7 @@ pub extern "C" fn desk_admit(alloc: Global, set: &[u8], room: &mut [u8], status:
 #[unsafe(no_mangle)]
 pub extern "C" fn desk_certify(alloc: Global, set: &[u8], room: &mut [u8], status: &mut u8) -> usize
     ensures room { length room.new ≡ length room.old }
-    ensures answer { AnswersCall (SaysCertified (asking_of no_options)
-        (Some set.now)) room.old room.new result status.new }
+    ensures answer { AnswersCall (OneSays Certify all_options (Some set.now)) room.old room.new result status.new }
 {
     answer(alloc, Asked::One(OfOne::Certify, set), room, status)
 }
@@ -50,8 +39,7 @@ pub extern "C" fn desk_certify(alloc: Global, set: &[u8], room: &mut [u8], statu
 #[unsafe(no_mangle)]
 pub extern "C" fn desk_limits(alloc: Global, set: &[u8], room: &mut [u8], status: &mut u8) -> usize
     ensures room { length room.new ≡ length room.old }
-    ensures answer { AnswersCall (SaysLimits (asking_of no_options)
-        (Some set.now)) room.old room.new result status.new }
+    ensures answer { AnswersCall (OneSays Limits all_options (Some set.now)) room.old room.new result status.new }
 {
     answer(alloc, Asked::One(OfOne::Limits, set), room, status)
 }
@@ -65,8 +53,7 @@ pub extern "C" fn desk_settings(
     status: &mut u8,
 ) -> usize
     ensures room { length room.new ≡ length room.old }
-    ensures answer { AnswersCall (SaysSettings 1 0 (asking_of no_options)
-        (Some set.now)) room.old room.new result status.new }
+    ensures answer { AnswersCall (OneSays Settings all_options (Some set.now)) room.old room.new result status.new }
 {
     answer(alloc, Asked::One(OfOne::Settings, set), room, status)
 }
@@ -75,8 +62,7 @@ pub extern "C" fn desk_settings(
 #[unsafe(no_mangle)]
 pub extern "C" fn desk_explain(alloc: Global, set: &[u8], room: &mut [u8], status: &mut u8) -> usize
     ensures room { length room.new ≡ length room.old }
-    ensures answer { AnswersCall (SaysExplained true false (asking_of no_options)
-        (Some set.now)) room.old room.new result status.new }
+    ensures answer { AnswersCall (OneSays Explain all_options (Some set.now)) room.old room.new result status.new }
 {
     answer(alloc, Asked::One(OfOne::Explain, set), room, status)
 }
@@ -85,7 +71,7 @@ pub extern "C" fn desk_explain(alloc: Global, set: &[u8], room: &mut [u8], statu
 #[unsafe(no_mangle)]
 pub extern "C" fn desk_play(alloc: Global, script: &[u8], room: &mut [u8], status: &mut u8) -> usize
     ensures room { length room.new ≡ length room.old }
-    ensures answer { AnswersCall (SaysPlayed (Some script.now)) room.old room.new result status.new }
+    ensures answer { AnswersCall (OneSays Play all_options (Some script.now)) room.old room.new result status.new }
 {
     answer(alloc, Asked::One(OfOne::Play, script), room, status)
 }
@@ -148,7 +134,7 @@ pub extern "C" fn desk_check(
     status: &mut u8,
 ) -> usize
     ensures room { length room.new ≡ length room.old }
-    ensures answer { AnswersCall (SaysChecked (asking_of no_options) (Some set.now)
+    ensures answer { AnswersCall (TwoSay Check no_options (Some set.now)
         (Some certificate.now)) room.old room.new result status.new }
 {
     answer(
@@ -169,7 +155,7 @@ pub extern "C" fn desk_judge(
     status: &mut u8,
 ) -> usize
     ensures room { length room.new ≡ length room.old }
-    ensures answer { AnswersCall (SaysJudged false false (asking_of no_options) (Some set.now)
+    ensures answer { AnswersCall (TwoSay Judge no_options (Some set.now)
         (Some settings.now)) room.old room.new result status.new }
 {
     answer(alloc, Asked::Two(OfTwo::Judge, set, settings), room, status)
@@ -185,7 +171,7 @@ pub extern "C" fn desk_diff(
     status: &mut u8,
 ) -> usize
     ensures room { length room.new ≡ length room.old }
-    ensures answer { AnswersCall (SaysCompared (asking_of no_options) (Some set.now)
+    ensures answer { AnswersCall (TwoSay Diff no_options (Some set.now)
         (Some changed.now)) room.old room.new result status.new }
 {
     answer(alloc, Asked::Two(OfTwo::Diff, set, changed), room, status)
@@ -201,7 +187,7 @@ pub extern "C" fn desk_simulate(
     status: &mut u8,
 ) -> usize
     ensures room { length room.new ≡ length room.old }
-    ensures answer { AnswersCall (SaysSimulated (asking_of no_options) (Some set.now)
+    ensures answer { AnswersCall (TwoSay Simulate no_options (Some set.now)
         (Some releases.now)) room.old room.new result status.new }
 {
     answer(
@@ -222,7 +208,7 @@ pub extern "C" fn desk_draw(
     status: &mut u8,
 ) -> usize
     ensures room { length room.new ≡ length room.old }
-    ensures answer { AnswersCall (SaysDrawn no_options (asking_of no_options) (Some set.now)
+    ensures answer { AnswersCall (TwoSay Draw no_options (Some set.now)
         (Some releases.now)) room.old room.new result status.new }
 {
     answer(alloc, Asked::Two(OfTwo::Draw, set, releases), room, status)
@@ -239,7 +225,7 @@ pub extern "C" fn desk_draw_beside(
     status: &mut u8,
 ) -> usize
     ensures room { length room.new ≡ length room.old }
-    ensures answer { AnswersCall (SaysBeside no_options (asking_of no_options) (Some set.now)
+    ensures answer { AnswersCall (TwoSay DrawBeside no_options (Some set.now)
         (Some both.now)) room.old room.new result status.new }
 {
     answer(
@@ -277,7 +263,7 @@ pub extern "C" fn desk_observe(
     status: &mut u8,
 ) -> usize
     ensures room { length room.new ≡ length room.old }
-    ensures answer { AnswersCall (SaysObserved (leeway_of no_options) (asking_of no_options) (Some set.now)
+    ensures answer { AnswersCall (TwoSay Observe no_options (Some set.now)
         (Some trace.now)) room.old room.new result status.new }
 {
     answer(alloc, Asked::Two(OfTwo::Observe, set, trace), room, status)

@@ -49,8 +49,7 @@ pub returns-in-Ok-place : goal.returns-in-Ok-place
 returns-in-Ok-place g c =
     let placed = rw c.asking_of-asking.ensures at c.in-Ok-place.ensures.answer in
     carried_out c.in-Ok-place.ensures.read (said_as c.say_placing.ensures
-    (λ told.
-    told (g.R.Read.remaining c.args.input.now.inner) placed.0 placed.1))
+    (λ told. told (g.R.Read.remaining c.args.input.now.inner) placed))
 
 pub returns-in-Err-place : goal.returns-in-Err-place
 returns-in-Err-place g c =

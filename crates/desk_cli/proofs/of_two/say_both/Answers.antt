@@ -1,26 +1,12 @@
-use Rattle.std.proofs.Common.{Err}
-use Rattle.desk_cli.specs.Found.{FindsIn}
-use Rattle.answering.specs.declared.refusal.CommandRefusal.{CommandRefusal}
-use Rattle.answering.proofs.CarriedOut.{refusal_said, said_as}
-use Rattle.desk_cli.proofs.Found.{never_unread, printed_in, refused_in}
+use Rattle.std.proofs.Common.{refl}
+use Rattle.answering.proofs.CarriedOut.{shown}
+use Rattle.desk_cli.proofs.Said.{never_fails, said_of_both}
 use Rattle.desk_cli.proofs.of_two.say_both.Goals as goal
 
-pub returns-in-Ok : goal.returns-in-Ok
-returns-in-Ok g c =
+pub returns : goal.returns
+returns g c =
     let both = c.args.both.now in
-    let finds = rw (c.in-Ok.is, c.deref.ensures.value) at c.find-answer.ensures.answer in
-    said_as (rw c.deref-in-Ok.ensures.value at c.print_found.ensures) (λ told. printed_in c.args.options both.by both.owners.items
-    both.chains.items both.tasks both.text.items _ _ _ c.args.command c.in-Ok.found finds told)
-
-pub returns-in-Err : goal.returns-in-Err
-returns-in-Err g c =
-    let both = c.args.both.now in
-    let U = both.tasks in
-    let text = both.text.items in
-    let why = rw (c.in-Err.is, c.deref.ensures.value) at c.find-answer.ensures.answer in
-    refusal_said c.in-Err.refusal (λ (r : CommandRefusal). FindsIn c.args.command c.args.options
-    both.by both.owners.items both.chains.items U text (Err r)) why
-    (never_unread c.args.command c.args.options both.by both.owners.items both.chains.items U text)
-    c.refuse.ensures
-    (λ wrote is. refused_in c.args.options both.by both.owners.items both.chains.items U text _ _ _ c.args.command
-    c.in-Err.refusal why wrote is)
+    let answer = c.answer_both-answer.result in
+    let answers = c.answer_both-answer.ensures in
+    shown c.print_answer.ensures refl refl (never_fails c.args.options both c.args.command answer answers)
+    (λ wrote is. said_of_both c.args.options both c.args.command answer _ _ _ answers wrote is)
