@@ -145,11 +145,13 @@ So it is of an order that is given, where it passes, and of a new set:
   $ desk explain tight.toml --at now > said
   [3]
 
-Where an order stands in front of a list or a trace `judge` says which, and of two sets in one picture their own commands do:
+So does an order in front of a list or a trace. Of two sets in one picture their own commands do:
 
   $ cat now trace | desk observe tight.toml - | head -n 1
   task log 1 0 5000 - 100000 - 17400
+  (on standard error) note: in this order a chain misses its limit: desk judge says which
   $ { cat now; desk releases tight.toml 1000; } | desk simulate tight.toml - > /dev/null
+  (on standard error) note: in this order a chain misses its limit: desk judge says which
   $ desk releases tight.toml 1000 | desk draw tight.toml - --beside tight.toml > /dev/null
 
 In an order in which a task of it misses its deadline a chain has no bound. Where no order passes, none has a line:
@@ -438,6 +440,7 @@ In another order, which stands in front of the list; where a task of the chain m
   (on standard error) note: in this order a chain misses its limit: desk judge says which
   $ desk simulate examples/steer.toml built --tasks | tail -n 1
   chain steer 9 age 44198 reaction 44198 bound 46200
+  (on standard error) note: in this order a chain misses its limit: desk judge says which
   $ printf 'thread plan 1\nthread camera 2\nthread wheel 3\nthread log 4\n' > order
   $ desk worst examples/steer.toml --at order --chain steer
   # steer no-bound

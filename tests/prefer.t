@@ -138,6 +138,14 @@ The words of a call come before what the set says, and a note tells of it where 
   0
   [1]
 
+Of two sets each is told of:
+
+  $ desk diff --prefer deadline own.toml plain.toml > said
+  (on standard error) note: --prefer deadline overrides the new set's prefer = "weight"
+  $ desk releases own.toml 1000 | desk draw --prefer weight own.toml - --beside own.toml > said
+  (on standard error) note: --prefer weight overrides the set's prefer = "deadline"
+  (on standard error) note: --prefer weight overrides the new set's prefer = "deadline"
+
 Where nobody prefers anything, no task has a weight, and names put a task lower than one of a longer deadline, less jitter, a
 note says so; in the set of two tasks above names put a, of the shorter one, lower:
 

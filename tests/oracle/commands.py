@@ -645,20 +645,25 @@ def keywords(call):
 def told(call, said, text, status):
     """What stands on standard error beside an answer on a set."""
     tasks, others = said[0], said[1:]
-    prefer = call.options.get("prefer")
-    lines = []
-    if prefer is not None and tasks.own not in (None, prefer):
-        lines.append(f'--prefer {prefer} overrides the set\'s prefer = "{tasks.own}"')
+    lines = overridden(call, tasks, "set's")
     if call.command is COMMANDS["diff"]:
-        lines += notes(others[0]) + chain_missed(others[0], "the new set's")
+        lines += overridden(call, others[0], "new set's") + notes(others[0]) + chain_missed(others[0], "the new set's")
     elif call.command is BESIDE:
-        lines += notes(others[1].tasks) + notes_of_both(tasks, *others, status)
+        lines += overridden(call, others[1].tasks, "new set's") + notes(others[1].tasks)
+        lines += notes_of_both(tasks, *others, status)
     else:
         lines += ["the set has no task"] * (not tasks) + notes(tasks)
         if tasks and call.options.get("base", 1) + len(tasks) - 1 > 99:
             lines.append("the highest thread is above 99, the most that Linux has for SCHED_FIFO")
         lines += notes_of(call, tasks, others, text, status)
     return "".join(f"note: {line}\n" for line in lines)
+
+
+def overridden(call, tasks, whose):
+    """Where the call prefers otherwise than a set."""
+    prefer = call.options.get("prefer")
+    is_other = prefer is not None and tasks.own not in (None, prefer)
+    return [f'--prefer {prefer} overrides the {whose} prefer = "{tasks.own}"'] * is_other
 
 
 def doubts(call, tasks):
@@ -719,15 +724,16 @@ def notes_of(call, tasks, others, text, status):
         if status == INFEASIBLE:
             return ["no order passes, so there is no run: desk explain says why"]
         in_best = [] if others[0][0] else names_decide(call, tasks)
-        missed = [] if others[0][0] else chain_missed(tasks)
+        missed = listed_missed(tasks, others[0][0]) if others[0][0] else chain_missed(tasks)
         return in_best + left_out(tasks) + overran(picture.cut(tasks, *others[0])[2]) + missed
     if command == "script":
         return ["a script has no chains: those of the set are left out"] * bool(tasks.chains)
     if command == "observe":
         seen = {line.split()[1]: int(line.split()[2]) for line in text.splitlines() if line.startswith("task ")}
         unseen = [task.name for task in tasks if seen.get(task.name) == 0]
-        has_own = bool(others[0][0]) or not seen
-        in_best, missed = ([], []) if has_own else (names_decide(call, tasks), chain_missed(tasks))
+        rows, is_shown = others[0][0], bool(seen)
+        in_best = names_decide(call, tasks) if is_shown and not rows else []
+        missed = (listed_missed(tasks, rows) if rows else chain_missed(tasks)) if is_shown else []
         return in_best + ["the trace has no job of " + ", ".join(unseen)] * bool(unseen) + missed
     return []
 
@@ -746,6 +752,12 @@ def kept_missed(text, status):
 def given_missed(tasks, rows):
     """The same of an order that settings give, where it passes."""
     order = settings.node_order(tasks, rows)
+    return missed_here(analysis.is_passing_order(tasks, order) and misses_chain(tasks, order))
+
+
+def listed_missed(tasks, rows):
+    """The same of an order in front of a list or a trace."""
+    order = picture.order_of(tasks, rows)
     return missed_here(analysis.is_passing_order(tasks, order) and misses_chain(tasks, order))
 
 
